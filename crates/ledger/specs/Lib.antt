@@ -1,0 +1,5 @@
+pub mod Debts
+pub mod Sound
+pub mod States
+pub mod Checks
+pub mod Calls

@@ -1,0 +1,4 @@
+// The ledger: lines, open groups of payments, the standing reservation, and the calls on them.
+pub mod call;
+pub mod reservation;
+pub mod state;

@@ -1,0 +1,1 @@
+// Rings of debt, and their cancelling.

@@ -1,0 +1,2 @@
+// Routers: who finds how a payment runs along the lines.
+pub mod router;
