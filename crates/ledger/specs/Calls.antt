@@ -15,8 +15,9 @@ use Rattle.credit.specs.declared.refusal.Refusal.{Refusal}
 use Rattle.credit.specs.Refusals.{Verdict, passes, numberOf}
 use Rattle.credit.specs.Plans.{booked}
 use Rattle.routing.specs.Meaning.{Routes}
+use Rattle.rings.specs.Rings.{Tidied}
 use Rattle.ledger.specs.declared.call.Call.{Call}
-use Rattle.ledger.specs.declared.call.Call.the-variants.{Open, Pay, Reserve, Book, Release, Begin, End, Abandon}
+use Rattle.ledger.specs.declared.call.Call.the-variants.{Open, Pay, Reserve, Book, Release, Begin, End, Abandon, Tidy}
 use Rattle.ledger.specs.declared.call.Answer.{Answer}
 use Rattle.ledger.specs.declared.call.Answer.the-variants.{Done, Reserved, Released, Kept, Undone, Refused}
 use Rattle.ledger.specs.declared.reservation.Claim.{Claim}
@@ -100,3 +101,4 @@ Does s (Release p q n) r s′ = (r ≡ Released (matches (s .standing) p q n)) �
 Does s Begin r s′ = Plain (beginChecks s) s Done (begun s) r s′
 Does s End r s′ = Plain (closeChecks s) s (cond (inmostSpoiled (s .groups)) Undone Kept) (closed s (s .groups) (not (inmostSpoiled (s .groups)))) r s′
 Does s Abandon r s′ = Plain (closeChecks s) s Undone (closed s (s .groups) false) r s′
+Does s Tidy r s′ = (r ≡ Done) × (ls : List Line) × Tidied (s .lines) ls × (s′ ≡ withLines s ls)

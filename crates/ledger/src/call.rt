@@ -13,6 +13,7 @@ pub enum Call {
     Begin,
     End,
     Abandon,
+    Tidy,
 }
 
 // What a call answers.
