@@ -2,8 +2,8 @@ ghost use mathlib.Core.Path.{_≡_};
 ghost use Rattle.credit.specs.Refusals.{numberOf};
 use members::group::Group;
 use members::group::GroupDebug;
-use members::group::GroupPartialEq;
 use members::group::GroupEq;
+use members::group::GroupPartialEq;
 
 // Why a call is refused. Each case has its number in the table of refusals.
 #[derive(Clone, Copy, Debug, PartialEq, Eq)]
