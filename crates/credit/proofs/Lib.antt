@@ -1,2 +1,4 @@
 pub mod Sums
 pub mod Rooms
+pub mod Bounds
+pub mod Booked

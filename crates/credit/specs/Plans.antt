@@ -2,7 +2,7 @@
 use Prim.Native.Nat.{ℕ}
 use mathlib.Core.Path.{_≡_}
 use mathlib.Core.List.{List, [], _∷_}
-use mathlib.Core.Bool.{Bool, _&&_}
+use mathlib.Core.Bool.{Bool, cond, _&&_}
 use lib.IntN.{ℤ, pos, _+ℤ_, _-ℤ_}
 use lib.Signed.{leZ}
 use lib.Dec.{eqb}
@@ -43,3 +43,11 @@ roomy l = leZ (pos 0) (roomOnward l) && leZ (pos 0) (roomBack l)
 -- no room is negative under a plan
 abbrev pub fits : List Line → List ℤ → Bool
 fits ls plan = every roomy (booked ls plan)
+
+-- the plan number of a line once n more is moved from the member p over it
+abbrev pub sentFrom : Line → ℕ → ℤ → ℤ → ℤ
+sentFrom l p x n = cond (eqb (l .a) p) (x +ℤ n) (x -ℤ n)
+
+-- a line's room from the member p to its other end
+abbrev pub roomFrom : Line → ℕ → ℤ
+roomFrom l p = cond (eqb (l .a) p) (roomOnward l) (roomBack l)
