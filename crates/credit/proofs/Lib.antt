@@ -2,3 +2,4 @@ pub mod Sums
 pub mod Rooms
 pub mod Bounds
 pub mod Booked
+pub mod Sends
