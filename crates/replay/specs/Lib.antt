@@ -1,0 +1,4 @@
+pub mod Runs
+pub mod History
+pub mod Law
+pub mod Sums

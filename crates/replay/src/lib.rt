@@ -1,0 +1,1 @@
+// A list of calls given to two new ledgers, and the law of router independence.
