@@ -6,13 +6,17 @@ use mathlib.Core.Bool.{Bool, true, false, _&&_}
 use mathlib.Core.Logic.{_⊎_, inl, inr}
 use lib.IntN.{ℤ, pos, _+ℤ_, _-ℤ_, negℤ}
 use lib.Signed.{leZ, _≤ℤ_}
-use lib.Dec.{ltb}
+use lib.Dec.{ltb, eqb}
 use Rattle.std.proofs.shelf.Signed.{ints}
 use Rattle.std.proofs.shelf.Tests.{and-parts, and-from, ltb-true, cases-bool, both-ways}
 use Rattle.credit.specs.declared.line.Line.{Line}
-use Rattle.credit.specs.Net.{bounded, framed, affordable, inTrust}
+use mathlib.Core.List.{List}
+use lib.ListN.{length, getD}
+use Rattle.credit.specs.Sums.{only, every}
+use Rattle.credit.specs.Net.{bounded, framed, affordable, inTrust, share, noLine}
 use Rattle.credit.specs.Rooms.{roomOnward, roomBack}
 use Rattle.credit.specs.Plans.{roomy, moved}
+use Rattle.credit.proofs.Sums.{every-at}
 
 pub leZ-order : (a b : ℤ) → leZ a b ≡ true → a ≤ℤ b
 leZ-order a b h = omega (arith, ints)
@@ -76,3 +80,16 @@ roomy-from l h k = and-from (leZ (pos 0) (roomOnward l)) (leZ (pos 0) (roomBack 
 -- a move that leaves a line roomy leaves it within its bounds
 pub bounded-moved : (l : Line) (x : ℤ) → bounded l ≡ true → roomy (moved l x) ≡ true → bounded (moved l x) ≡ true
 bounded-moved l x e h = and-from (framed l) (affordable (moved l x)) (and-parts (framed l) (affordable l) e .0) (sym (roomy-is (moved l x)) ∙ h)
+
+-- a line brings at most 1,000,000 to a member, either way
+pub share-range : (m : ℕ) (l : Line) → bounded l ≡ true → (negℤ (pos 1000000) ≤ℤ share m l) × (share m l ≤ℤ pos 1000000)
+share-range m l e = by (eqb m (l .a)) (eqb m (l .b))
+  where
+    by : (s t : Bool) → (negℤ (pos 1000000) ≤ℤ (only s (l .debt) -ℤ only t (l .debt))) × ((only s (l .debt) -ℤ only t (l .debt)) ≤ℤ pos 1000000)
+    by true true = let b = bounded-facts l e in (omega (arith, ints), omega (arith, ints))
+    by true false = let b = bounded-facts l e in (omega (arith, ints), omega (arith, ints))
+    by false true = let b = bounded-facts l e in (omega (arith, ints), omega (arith, ints))
+    by false false = let b = bounded-facts l e in (omega (arith, ints), omega (arith, ints))
+
+pub share-within : (m : ℕ) (ls : List Line) (i : ℕ) → every bounded ls ≡ true → i < length ls → (negℤ (pos 1000000) ≤ℤ share m (getD ls i noLine)) × (share m (getD ls i noLine) ≤ℤ pos 1000000)
+share-within m ls i e h = share-range m (getD ls i noLine) (every-at bounded ls i noLine e h)

@@ -1,3 +1,5 @@
 // Lines of mutual credit, net positions, rooms, plans and flows, and the refusals with their numbers.
+pub mod booking;
 pub mod line;
+pub mod net;
 pub mod refusal;
