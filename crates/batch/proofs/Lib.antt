@@ -1,0 +1,5 @@
+pub mod Cuts
+pub mod Grammars
+pub mod Rows
+pub mod Lines
+pub mod Sizes
