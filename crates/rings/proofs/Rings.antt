@@ -7,15 +7,18 @@ use mathlib.Core.Bool.{Bool, true, false, cond, not, _&&_, _||_}
 use mathlib.Core.Logic.{_⊎_, inl, inr, _≢_}
 use lib.IntN.{ℤ, pos, negsuc, _+ℤ_, _-ℤ_, negℤ}
 use lib.Signed.{_≤ℤ_, _<ℤ_, leZ}
-use lib.Dec.{eqb, ltb}
-use Rattle.std.proofs.shelf.Signed.{ints}
-use Rattle.std.proofs.shelf.Tests.{and-parts, and-from, or-parts, or-cases, or-left, or-right, not-false, not-true, eqb-true, eqb-false, eq-eqb, ne-eqb, cases-bool}
+use lib.ListN.{length, getD}
+use lib.Dec.{eqb}
+use Rattle.std.proofs.shelf.Signed.{ints, by-ltZ}
+use Rattle.std.proofs.shelf.Tests.{and-parts, and-from, or-parts, or-cases, or-left, or-right, not-false, not-true, eqb-true, eqb-false, eq-eqb, ne-eqb}
 use Rattle.credit.specs.declared.line.Line.{Line}
 use Rattle.credit.specs.Sums.{sumZ, only, every}
-use Rattle.credit.specs.Net.{inTrust, share, net, framed, affordable, bounded}
+use Rattle.credit.specs.Net.{noLine, share, net, framed, affordable, bounded}
 use Rattle.credit.specs.Plans.{withDebt}
 use Rattle.credit.specs.Pairs.{joins, joined, distinct}
+use Rattle.credit.proofs.Bounds.{Bounds, bounded-facts}
 use Rattle.rings.specs.Rings.{lineOwes, owes, walk, steps, has, once, on, Ring, lowerLine, lower, cancel, Cancels, Tidied}
+use Rattle.rings.specs.Steps.{DebtStep, Shrinks, Eases}
 
 -- the lines without their debts
 abbrev pub shape : List Line → List Line
@@ -228,7 +231,7 @@ steps-falls x y c [] o = refl
 steps-falls x y c (k ∷ ms) o = once-falls x y c k ms k o
 
 -- one line under all steps
-abbrev cancelLine : List (ℕ × ℕ) → ℤ → Line → Line
+abbrev pub cancelLine : List (ℕ × ℕ) → ℤ → Line → Line
 cancelLine [] c l = l
 cancelLine (s ∷ ss) c l = cancelLine ss c (lowerLine (s .0) (s .1) c l)
 
@@ -243,6 +246,10 @@ cancel-nil (s ∷ ss) c = cancel-nil ss c
 cancel-line : (ss : List (ℕ × ℕ)) (c : ℤ) (l : Line) → cancelLine ss c l ≡ withDebt l ((l .debt -ℤ falls (l .b) (l .a) c ss) +ℤ falls (l .a) (l .b) c ss)
 cancel-line [] c l = ap (withDebt l) (omega (arith, ints))
 cancel-line (s ∷ ss) c l = cancel-line ss c (lowerLine (s .0) (s .1) c l) ∙ ap (withDebt l) (omega (arith, ints))
+
+pub line-same : (ss : List (ℕ × ℕ)) (c : ℤ) (l : Line) → cancelLine ss c l ≡ withDebt l (cancelLine ss c l .debt)
+line-same [] c l = refl
+line-same (s ∷ ss) c l = line-same ss c (lowerLine (s .0) (s .1) c l)
 
 -- the one line of a pair has all its debt
 abbrev Own : List Line → List Line → Type 0
@@ -282,65 +289,133 @@ own (l ∷ ls) d s =
     let y : lineOwes (l .a) (l .b) l ≡ negℤ (l .debt) = rw (g, ea, eb) (omega (arith, ints)) in
     (omega (arith, ints, x, owes-none (l .b) (l .a) ls m), omega (arith, ints, y, owes-none (l .a) (l .b) ls n), own-cons l ls ls n (own ls (h .1) (s .1)))
 
--- one line keeps its bounds
-line-bounded : (l : Line) (all : List Line) (ms : List ℕ) (c : ℤ) → Ring all ms c → bounded l ≡ true → owes (l .b) (l .a) all ≡ l .debt → owes (l .a) (l .b) all ≡ negℤ (l .debt) → bounded (cancelLine (steps ms) c l) ≡ true
-line-bounded l all ms c r b x y =
-    ap bounded (cancel-line (steps ms) c l ∙ ap₂ (λ (u v : ℤ). withDebt l ((l .debt -ℤ u) +ℤ v)) (steps-falls (l .b) (l .a) c ms (r .apart)) (steps-falls (l .a) (l .b) c ms (r .apart)))
-    ∙ go (on (l .b) (l .a) (steps ms)) refl (on (l .a) (l .b) (steps ms)) refl
+-- what the steps of a ring leave of one line
+pub line-falls : (ms : List ℕ) (c : ℤ) (l : Line) → once ms ≡ true → cancelLine (steps ms) c l ≡ withDebt l ((l .debt -ℤ only (on (l .b) (l .a) (steps ms)) c) +ℤ only (on (l .a) (l .b) (steps ms)) c)
+line-falls ms c l o =
+    cancel-line (steps ms) c l ∙ ap₂ (λ (u v : ℤ). withDebt l ((l .debt -ℤ u) +ℤ v)) (steps-falls (l .b) (l .a) c ms o) (steps-falls (l .a) (l .b) c ms o)
+
+-- no debt grows or turns, and one on the ring falls
+pub record Falls (d e : ℤ) (t : Bool) : Type 0 where
+  pub shrinks : Shrinks d e
+  pub less : t ≡ true → e ≢ d
+
+line-eases : (l : Line) (all : List Line) (ms : List ℕ) (c : ℤ) → Ring all ms c → owes (l .b) (l .a) all ≡ l .debt → owes (l .a) (l .b) all ≡ negℤ (l .debt)
+    → Falls (l .debt) (cancelLine (steps ms) c l .debt) (on (l .b) (l .a) (steps ms) || on (l .a) (l .b) (steps ms))
+line-eases l all ms c r x y =
+    subst (λ (k : Line). Falls (l .debt) (k .debt) (on (l .b) (l .a) (steps ms) || on (l .a) (l .b) (steps ms))) (sym (line-falls ms c l (r .apart)))
+    (go (on (l .b) (l .a) (steps ms)) refl (on (l .a) (l .b) (steps ms)) refl)
   where
-    frame : framed l ≡ true
-    frame = and-parts (framed l) (affordable l) b .0
-    range : (negℤ (l .«trust_b») ≤ℤ l .debt) × (l .debt ≤ℤ l .«trust_a»)
-    range =
-        let h = and-parts (framed l) (affordable l) b in
-        let k = and-parts (leZ (negℤ (l .«trust_b»)) (l .debt)) (leZ (l .debt) (l .«trust_a»)) (h .1) in
-        (omega (arith, ints, k), omega (arith, ints, k))
-    trusts : (pos 0 ≤ℤ l .«trust_a») × (pos 0 ≤ℤ l .«trust_b»)
-    trusts =
-        let k1 = and-parts (ltb (l .a) (l .b)) (ltb (l .b) 64 && (inTrust (l .«trust_a») && inTrust (l .«trust_b»))) frame in
-        let k2 = and-parts (ltb (l .b) 64) (inTrust (l .«trust_a») && inTrust (l .«trust_b»)) (k1 .1) in
-        let k3 = and-parts (inTrust (l .«trust_a»)) (inTrust (l .«trust_b»)) (k2 .1) in
-        let k4 = and-parts (leZ (pos 0) (l .«trust_a»)) (leZ (l .«trust_a») (pos 1000000)) (k3 .0) in
-        let k5 = and-parts (leZ (pos 0) (l .«trust_b»)) (leZ (l .«trust_b») (pos 1000000)) (k3 .1) in
-        (omega (arith, ints, k4 .0), omega (arith, ints, k5 .0))
-    within : (d : ℤ) → negℤ (l .«trust_b») ≤ℤ d → d ≤ℤ l .«trust_a» → bounded (withDebt l d) ≡ true
-    within d u v = and-from (framed l) (leZ (negℤ (l .«trust_b»)) d && leZ d (l .«trust_a»)) frame (and-from (leZ (negℤ (l .«trust_b»)) d) (leZ d (l .«trust_a»)) (sym (omega (arith, ints, u))) (sym (omega (arith, ints, v))))
-    go : (p : Bool) → on (l .b) (l .a) (steps ms) ≡ p → (q : Bool) → on (l .a) (l .b) (steps ms) ≡ q → bounded (withDebt l ((l .debt -ℤ only p c) +ℤ only q c)) ≡ true
+    go : (p : Bool) → on (l .b) (l .a) (steps ms) ≡ p → (q : Bool) → on (l .a) (l .b) (steps ms) ≡ q → Falls (l .debt) ((l .debt -ℤ only p c) +ℤ only q c) (p || q)
     go true e true f = absurd (omega (arith, ints, r .some, r .owing (l .b) (l .a) e, r .owing (l .a) (l .b) f, x, y))
-    go true e false f = within ((l .debt -ℤ c) +ℤ pos 0) (omega (arith, ints, r .some, r .owing (l .b) (l .a) e, x, trusts, range)) (omega (arith, ints, r .some, r .owing (l .b) (l .a) e, x, trusts, range))
-    go false e true f = within ((l .debt -ℤ pos 0) +ℤ c) (omega (arith, ints, r .some, r .owing (l .a) (l .b) f, y, trusts, range)) (omega (arith, ints, r .some, r .owing (l .a) (l .b) f, y, trusts, range))
-    go false e false f = within ((l .debt -ℤ pos 0) +ℤ pos 0) (omega (arith, ints, range)) (omega (arith, ints, range))
+    go true e false f = record {
+        shrinks = inl (omega (arith, ints, r .some, r .owing (l .b) (l .a) e, x), omega (arith, ints, r .some, r .owing (l .b) (l .a) e, x));
+        less = λ t h. omega (arith, ints, r .some, h) }
+    go false e true f = record {
+        shrinks = inr (omega (arith, ints, r .some, r .owing (l .a) (l .b) f, y), omega (arith, ints, r .some, r .owing (l .a) (l .b) f, y));
+        less = λ t h. omega (arith, ints, r .some, h) }
+    go false e false f = record { shrinks = still (by-ltZ (l .debt) (pos 0) inl inr); less = λ t h. let z : _≡_ {A = ℕ} 0 1 = cc in no z }
+      where
+        still : (l .debt <ℤ pos 0) ⊎ (pos 0 ≤ℤ l .debt) → Shrinks (l .debt) ((l .debt -ℤ pos 0) +ℤ pos 0)
+        still (inl h) = inr (omega (arith, ints, h), omega (arith, ints, h))
+        still (inr h) = inl (omega (arith, ints, h), omega (arith, ints, h))
+
+-- a debt that shrinks keeps its bounds
+bounded-shrinks : (l : Line) (d : ℤ) → bounded l ≡ true → Shrinks (l .debt) d → bounded (withDebt l d) ≡ true
+bounded-shrinks l d b s =
+    let f = bounded-facts l b in
+    let r = range f s in
+    and-from (framed l) (affordable (withDebt l d)) (and-parts (framed l) (affordable l) b .0)
+    (and-from (leZ (negℤ (l .«trust_b»)) d) (leZ d (l .«trust_a»)) (sym (omega (arith, ints, r .0))) (sym (omega (arith, ints, r .1))))
+  where
+    range : Bounds l → Shrinks (l .debt) d → (negℤ (l .«trust_b») ≤ℤ d) × (d ≤ℤ l .«trust_a»)
+    range f (inl h) = (omega (arith, ints, h, f .no-less-b), omega (arith, ints, h, f .most))
+    range f (inr h) = (omega (arith, ints, h, f .least), omega (arith, ints, h, f .no-less-a))
 
 lines-bounded : (ls all : List Line) (ms : List ℕ) (c : ℤ) → Ring all ms c → every bounded ls ≡ true → Own all ls → every bounded (cancel (steps ms) c ls) ≡ true
 lines-bounded [] all ms c r b o = ap (every bounded) (cancel-nil (steps ms) c)
 lines-bounded (l ∷ ls) all ms c r b o =
     let h = and-parts (bounded l) (every bounded ls) b in
+    let k = cancelLine (steps ms) c l in
+    let same : k ≡ withDebt l (k .debt) = line-same (steps ms) c l in
     ap (every bounded) (cancel-cons (steps ms) c l ls)
-    ∙ and-from (bounded (cancelLine (steps ms) c l)) (every bounded (cancel (steps ms) c ls)) (line-bounded l all ms c r (h .0) (o .0) (o .1)) (lines-bounded ls all ms c r (h .1) (o .2))
+    ∙ and-from (bounded k) (every bounded (cancel (steps ms) c ls)) (ap bounded same ∙ bounded-shrinks l (k .debt) (h .0) (line-eases l all ms c r (o .0) (o .1) .shrinks)) (lines-bounded ls all ms c r (h .1) (o .2))
 
 split : (ls : List Line) → every bounded ls ≡ true → Split ls
 split [] b = tt
 split (l ∷ ls) b =
     let h = and-parts (bounded l) (every bounded ls) b in
-    let k = and-parts (framed l) _ (h .0) in
-    let k1 = and-parts (ltb (l .a) (l .b)) _ (k .0) in
-    (Rattle.std.proofs.shelf.Tests.ltb-true (l .a) (l .b) (k1 .0), split ls (h .1))
+    (bounded-facts l (h .0) .order, split ls (h .1))
 
 -- ---- all rings
--- ends and trusts, net positions, bounds and pairs stay
+cancel-length : (ss : List (ℕ × ℕ)) (c : ℤ) (ls : List Line) → length (cancel ss c ls) ≡ length ls
+cancel-length ss c [] = ap length (cancel-nil ss c)
+cancel-length ss c (l ∷ ls) = ap length (cancel-cons ss c l ls) ∙ ap suc (cancel-length ss c ls)
+
+pub cancel-at : (ss : List (ℕ × ℕ)) (c : ℤ) (ls : List Line) (i : ℕ) → i < length ls → getD (cancel ss c ls) i noLine ≡ cancelLine ss c (getD ls i noLine)
+cancel-at ss c [] i h = absurd (omega arith)
+cancel-at ss c (l ∷ ls) zero h = ap (λ (ks : List Line). getD ks 0 noLine) (cancel-cons ss c l ls)
+cancel-at ss c (l ∷ ls) (suc i) h = ap (λ (ks : List Line). getD ks (suc i) noLine) (cancel-cons ss c l ls) ∙ cancel-at ss c ls i (omega arith)
+
+own-at : (all ls : List Line) (i : ℕ) → Own all ls → i < length ls → (owes (getD ls i noLine .b) (getD ls i noLine .a) all ≡ getD ls i noLine .debt) × (owes (getD ls i noLine .a) (getD ls i noLine .b) all ≡ negℤ (getD ls i noLine .debt))
+own-at all [] i o h = absurd (omega arith)
+own-at all (l ∷ ls) zero o h = (o .0, o .1)
+own-at all (l ∷ ls) (suc i) o h = own-at all ls i (o .2) (omega arith)
+
+-- the one line of a pair has all that is owed between its ends
+pub owed-at : (ls : List Line) (i : ℕ) → distinct ls ≡ true → every bounded ls ≡ true → i < length ls → (owes (getD ls i noLine .b) (getD ls i noLine .a) ls ≡ getD ls i noLine .debt) × (owes (getD ls i noLine .a) (getD ls i noLine .b) ls ≡ negℤ (getD ls i noLine .debt))
+owed-at ls i d b h = own-at ls ls i (own ls d (split ls b)) h
+
+-- what cancelling a ring does to line i
+pub ring-falls : (ls : List Line) (ms : List ℕ) (c : ℤ) → Ring ls ms c → distinct ls ≡ true → every bounded ls ≡ true → (i : ℕ) → i < length ls
+    → Falls (getD ls i noLine .debt) (getD (cancel (steps ms) c ls) i noLine .debt) (on (getD ls i noLine .b) (getD ls i noLine .a) (steps ms) || on (getD ls i noLine .a) (getD ls i noLine .b) (steps ms))
+ring-falls ls ms c r d b i h =
+    let o = owed-at ls i d b h in
+    let l = getD ls i noLine in
+    subst (λ (k : Line). Falls (l .debt) (k .debt) (on (l .b) (l .a) (steps ms) || on (l .a) (l .b) (steps ms))) (sym (cancel-at (steps ms) c ls i h)) (line-eases l ls ms c r (o .0) (o .1))
+
+ring-eases : (ls : List Line) (ms : List ℕ) (c : ℤ) → Ring ls ms c → distinct ls ≡ true → every bounded ls ≡ true → Eases ls (cancel (steps ms) c ls)
+ring-eases ls ms c r d b = record {
+    long = cancel-length (steps ms) c ls;
+    same = λ i h. let e = cancel-at (steps ms) c ls i h in let f = line-same (steps ms) c (getD ls i noLine) in e ∙ f ∙ ap (λ (k : Line). withDebt (getD ls i noLine) (k .debt)) (sym e);
+    less = λ i h. ring-falls ls ms c r d b i h .shrinks }
+
+shrinks-same : (d e : ℤ) → e ≡ d → Shrinks d e
+shrinks-same d e h = go (by-ltZ d (pos 0) inl inr)
+  where
+    go : (d <ℤ pos 0) ⊎ (pos 0 ≤ℤ d) → Shrinks d e
+    go (inl k) = inr (omega (arith, ints, h, k), omega (arith, ints, h, k))
+    go (inr k) = inl (omega (arith, ints, h, k), omega (arith, ints, h, k))
+
+shrinks-then : (d e f : ℤ) → Shrinks d e → Shrinks e f → Shrinks d f
+shrinks-then d e f (inl h) (inl k) = inl (omega (arith, ints, h, k), omega (arith, ints, h, k))
+shrinks-then d e f (inl h) (inr k) = inl (omega (arith, ints, h, k), omega (arith, ints, h, k))
+shrinks-then d e f (inr h) (inl k) = inr (omega (arith, ints, h, k), omega (arith, ints, h, k))
+shrinks-then d e f (inr h) (inr k) = inr (omega (arith, ints, h, k), omega (arith, ints, h, k))
+
+pub eases-same : (ls ks : List Line) → ks ≡ ls → Eases ls ks
+eases-same ls ks e = subst (λ (js : List Line). Eases ls js) (sym e) (record { long = refl; same = λ i h. refl; less = λ i h. shrinks-same (getD ls i noLine .debt) (getD ls i noLine .debt) refl })
+
+pub eases-then : (ls ks js : List Line) → Eases ls ks → Eases ks js → Eases ls js
+eases-then ls ks js p q = record {
+    long = q .long ∙ p .long;
+    same = λ i h. q .same i (omega (arith, p .long)) ∙ ap (λ (k : Line). withDebt k (getD js i noLine .debt)) (p .same i h);
+    less = λ i h. shrinks-then (getD ls i noLine .debt) (getD ks i noLine .debt) (getD js i noLine .debt) (p .less i h) (q .less i (omega (arith, p .long))) }
+
+-- ends and trusts, net positions, bounds and pairs stay, and no debt grows or turns
 pub record Keeps (ls ls′ : List Line) : Type 0 where
   pub shapes : shape ls′ ≡ shape ls
+  pub eases : Eases ls ls′
   pub nets : (m : ℕ) → net m ls′ ≡ net m ls
   pub bounds : every bounded ls′ ≡ true
   pub pairs : distinct ls′ ≡ true
 
 pub cancels-keep : (rs : List (List ℕ × ℤ)) (ls ls′ : List Line) → distinct ls ≡ true → every bounded ls ≡ true → Cancels rs ls ls′ → Keeps ls ls′
-cancels-keep [] ls ls′ d b e = record { shapes = ap shape e; nets = λ m. ap (net m) e; bounds = ap (every bounded) e ∙ b; pairs = ap distinct e ∙ d }
+cancels-keep [] ls ls′ d b e = record { shapes = ap shape e; eases = eases-same ls ls′ e; nets = λ m. ap (net m) e; bounds = ap (every bounded) e ∙ b; pairs = ap distinct e ∙ d }
 cancels-keep (r ∷ rs) ls ls′ d b e =
     let mid = cancel (steps (r .0)) (r .1) ls in
     let sh = shape-cancel (steps (r .0)) (r .1) ls in
     let k = cancels-keep rs mid ls′ (distinct-alike ls mid (sym sh) d) (lines-bounded ls ls (r .0) (r .1) (e .0) b (own ls d (split ls b))) (e .1) in
-    record { shapes = k .shapes ∙ sh; nets = λ m. k .nets m ∙ ring-net m (r .0) (r .1) ls d (e .0); bounds = k .bounds; pairs = k .pairs }
+    record { shapes = k .shapes ∙ sh; eases = eases-then ls mid ls′ (ring-eases ls (r .0) (r .1) (e .0) d b) (k .eases); nets = λ m. k .nets m ∙ ring-net m (r .0) (r .1) ls d (e .0); bounds = k .bounds; pairs = k .pairs }
 
 pub tidied-keeps : (ls ls′ : List Line) → distinct ls ≡ true → every bounded ls ≡ true → Tidied ls ls′ → Keeps ls ls′
 tidied-keeps ls ls′ d b t = cancels-keep (t .rings) ls ls′ d b (t .cancels)
