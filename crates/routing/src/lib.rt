@@ -1,2 +1,3 @@
 // Routers: who finds how a payment runs along the lines.
+pub mod checks;
 pub mod router;
