@@ -3,3 +3,4 @@ pub mod Sound
 pub mod States
 pub mod Checks
 pub mod Calls
+pub mod Answers

@@ -26,3 +26,10 @@ pub enum Answer {
     Undone,
     Refused(Refusal),
 }
+
+// How a group of payments was closed: its payments stay, or every debt is as at its begin.
+#[derive(Clone, Copy, Debug, PartialEq, Eq)]
+pub enum Closing {
+    Kept,
+    Undone,
+}

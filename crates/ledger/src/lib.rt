@@ -2,3 +2,5 @@
 pub mod call;
 pub mod reservation;
 pub mod state;
+pub mod plan_guard;
+mod checks;
