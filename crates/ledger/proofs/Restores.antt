@@ -4,14 +4,16 @@ use native.Mathlib.Omega.{arith}
 use native.Mathlib.Numerals.{add-one}
 use mathlib.Core.Path.{_≡_, refl, sym, _∙_, ap, ap₂, subst}
 use mathlib.Core.List.{List, [], _∷_, _++_}
-use mathlib.Core.Bool.{Bool, true, false, _&&_}
+use mathlib.Core.Bool.{Bool, true, false, not, _&&_, _||_}
 use lib.ListN.{length, take, getD, set}
+use lib.Dec.{eqb}
 use lib.IntN.{ℤ, pos}
 use Rattle.std.proofs.shelf.Tests.{and-parts, and-from}
 use Rattle.credit.specs.declared.line.Line.{Line}
 use Rattle.credit.specs.Sums.{every}
 use Rattle.credit.specs.Net.{bounded}
 use Rattle.credit.specs.Plans.{withDebt, booked}
+use Rattle.credit.specs.Pairs.{joins, joined, distinct}
 use Rattle.ledger.specs.declared.state.Savepoint.{Savepoint}
 use Rattle.ledger.specs.Debts.{debts, withDebts}
 use Rattle.ledger.specs.Sound.{restorable}
@@ -105,11 +107,35 @@ restorable-pop ls (x ∷ sps) sp h =
     let r = restorable-pop ls sps sp (p .1) in
     (and-from (safe ls x) (restorable ls sps) (p .0) (r .0), r .1)
 
-pub restorable-mark : (ls : List Line) (sps : List Savepoint) (i : ℕ) (d : Savepoint) → length sps ≡ suc i → restorable ls sps ≡ true → restorable ls (set sps i (marked (getD sps i d))) ≡ true
-restorable-mark ls sps i d h k =
-    let p = restorable-pop ls (take i sps) (getD sps i d) (ap (restorable ls) (sym (last-split sps i d h)) ∙ k) in
-    ap (restorable ls) (last-set sps i (marked (getD sps i d)) h) ∙ restorable-push ls (take i sps) (marked (getD sps i d)) (p .0) (p .1)
+pub restorable-mark : (ls : List Line) (sps : List Savepoint) (i : ℕ) (x : Savepoint) → length sps ≡ suc i → x ≡ getD sps i x → restorable ls sps ≡ true → restorable ls (set sps i (marked x)) ≡ true
+restorable-mark ls sps i x h e k =
+    let p = restorable-pop ls (take i sps) (getD sps i x) (ap (restorable ls) (sym (last-split sps i x h)) ∙ k) in
+    ap (restorable ls) (last-set sps i (marked x) h) ∙ restorable-push ls (take i sps) (marked x) (p .0) (ap (safe ls) e ∙ p .1)
 
 pub restorable-alike : (ls ks : List Line) (sps : List Savepoint) → ((ds : List ℤ) → withDebts ls ds ≡ withDebts ks ds) → restorable ls sps ≡ restorable ks sps
 restorable-alike ls ks [] e = refl
 restorable-alike ls ks (sp ∷ sps) e = ap₂ (λ (x y : Bool). x && y) (ap (every bounded) (e (sp .debts))) (restorable-alike ls ks sps e)
+
+-- ---- lines that differ in their debts alone
+pub joined-withDebts : (x y : ℕ) (ls : List Line) (ds : List ℤ) → joined x y (withDebts ls ds) ≡ joined x y ls
+joined-withDebts x y [] ds = refl
+joined-withDebts x y (l ∷ ls) [] = ap (λ t. joins x y l || t) (joined-withDebts x y ls [])
+joined-withDebts x y (l ∷ ls) (d ∷ ds) = ap (λ t. joins x y l || t) (joined-withDebts x y ls ds)
+
+pub distinct-withDebts : (ls : List Line) (ds : List ℤ) → distinct (withDebts ls ds) ≡ distinct ls
+distinct-withDebts [] ds = refl
+distinct-withDebts (l ∷ ls) [] = ap₂ (λ (s t : Bool). not s && t) (joined-withDebts (l .a) (l .b) ls []) (distinct-withDebts ls [])
+distinct-withDebts (l ∷ ls) (d ∷ ds) = ap₂ (λ (s t : Bool). not s && t) (joined-withDebts (l .a) (l .b) ls ds) (distinct-withDebts ls ds)
+
+-- booking changes debts alone
+pub booked-is : (ls : List Line) (xs : List ℤ) → booked ls xs ≡ withDebts ls (debts (booked ls xs))
+booked-is ls xs = sym (withDebts-debts (booked ls xs)) ∙ withDebts-booked ls xs (debts (booked ls xs))
+
+pub restorable-rest : (ls : List Line) (sps rest more : List Savepoint) → sps ≡ rest ++ more → restorable ls sps ≡ true → restorable ls rest ≡ true
+restorable-rest ls sps rest more e h = front rest (sym (ap (restorable ls) e) ∙ h)
+  where
+    front : (rest : List Savepoint) → restorable ls (rest ++ more) ≡ true → restorable ls rest ≡ true
+    front [] k = refl
+    front (x ∷ rest) k =
+        let p = and-parts (safe ls x) (restorable ls (rest ++ more)) k in
+        and-from (safe ls x) (restorable ls rest) (p .0) (front rest (p .1))

@@ -44,15 +44,20 @@ pub groups-last : (n : ℕ) (sps : List Savepoint) (i : ℕ) (d : Savepoint) →
 groups-last n sps i d h = ap (groupsOf n) (last-split sps i d h) ∙ groups-push n (take i sps) (getD sps i d)
 
 -- marking the last savepoint spoils the inmost group
-pub groups-mark : (n : ℕ) (sps : List Savepoint) (i : ℕ) (d : Savepoint) → length sps ≡ suc i → groupsOf n (set sps i (marked (getD sps i d))) ≡ spoilInmost (groupsOf n sps)
-groups-mark n sps i d h =
-    ap (groupsOf n) (last-set sps i (marked (getD sps i d)) h)
-    ∙ groups-push n (take i sps) (marked (getD sps i d))
-    ∙ ap spoilInmost (sym (groups-last n sps i d h))
+pub groups-mark : (n : ℕ) (sps : List Savepoint) (i : ℕ) (x : Savepoint) → length sps ≡ suc i → x ≡ getD sps i x → groupsOf n (set sps i (marked x)) ≡ spoilInmost (groupsOf n sps)
+groups-mark n sps i x h e =
+    ap (groupsOf n) (last-set sps i (marked x) h)
+    ∙ groups-push n (take i sps) (marked x)
+    ∙ ap (λ y. openGroup n (marked y) ∷ groupsOf n (take i sps)) e
+    ∙ ap spoilInmost (sym (groups-last n sps i x h))
 
 pub groups-none : (n : ℕ) (sps : List Savepoint) → length sps ≡ 0 → groupsOf n sps ≡ []
 groups-none n [] h = refl
 groups-none n (sp ∷ sps) h = absurd (omega arith)
+
+-- with no group open there is nothing to mark
+pub unmarked : (n : ℕ) (sps : List Savepoint) → length sps ≡ 0 → groupsOf n sps ≡ spoilInmost (groupsOf n sps)
+unmarked n sps h = groups-none n sps h ∙ sym (ap spoilInmost (groups-none n sps h))
 
 pub inmost-last : (n : ℕ) (sps : List Savepoint) (i : ℕ) (x : Savepoint) → length sps ≡ suc i → x ≡ getD sps i x → inmostSpoiled (groupsOf n sps) ≡ x .spoiled
 inmost-last n sps i x h e = ap inmostSpoiled (groups-last n sps i x h) ∙ ap (λ y. y .spoiled) (sym e)

@@ -33,9 +33,10 @@ openGroup n sp = record { saved = take n (sp .debts); spoiled = sp .spoiled }
 
 abbrev pub stateOf : Ledger → State
 stateOf l = record {
-    lines = vec-items (l .lines);
-    groups = map (openGroup (length (vec-items (l .lines)))) (reverse (vec-items (l .savepoints)));
-    standing = l .standing }
+  lines = vec-items (l .lines);
+  groups = map (openGroup (length (vec-items (l .lines)))) (reverse (vec-items (l .savepoints)));
+  standing = l .standing;
+}
 
 abbrev pub withLines : State → List Line → State
 withLines s ls = record { lines = ls; groups = s .groups; standing = s .standing }

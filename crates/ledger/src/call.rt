@@ -5,11 +5,35 @@ use credit::refusal::RefusalDebug;
 // A call. A plan sheet counts by its number of places alone, a reservation by its three numbers.
 #[derive(Clone, Copy, Debug)]
 pub enum Call {
-    Open { first: u32, second: u32, trust: i32, back: i32 },
-    Pay { places: usize, payer: u32, payee: u32, amount: i32 },
-    Reserve { places: usize, payer: u32, payee: u32, amount: i32 },
-    Book { places: usize, payer: u32, payee: u32, amount: i32 },
-    Release { payer: u32, payee: u32, amount: i32 },
+    Open {
+        first: u32,
+        second: u32,
+        trust: i32,
+        back: i32,
+    },
+    Pay {
+        places: usize,
+        payer: u32,
+        payee: u32,
+        amount: i32,
+    },
+    Reserve {
+        places: usize,
+        payer: u32,
+        payee: u32,
+        amount: i32,
+    },
+    Book {
+        places: usize,
+        payer: u32,
+        payee: u32,
+        amount: i32,
+    },
+    Release {
+        payer: u32,
+        payee: u32,
+        amount: i32,
+    },
     Begin,
     End,
     Abandon,

@@ -8,16 +8,19 @@ ghost use Rattle.std.specs.Options.{isSome};
 ghost use Rattle.ledger.specs.States.{stateOf};
 ghost use Rattle.ledger.specs.Checks.{inmostSpoiled, noneOpen, matches, payChecks, bookChecks, openChecks, beginChecks, closeChecks};
 ghost use Rattle.ledger.specs.Calls.{spoils};
-use credit::refusal::Refusal;
 use crate::reservation::Reservation;
 use crate::state::Ledger;
+use credit::refusal::Refusal;
 
 // Whether a payment refused so spoils the inmost open group.
 pub(crate) fn spoiling(refusal: &Refusal) -> bool
     ensures { λ r. ⌜ r ≡ spoils (now (refusal .entry)) ⌝ }
 {
     match refusal {
-        Refusal::NoSuchMember | Refusal::SameMember | Refusal::OutOfRange | Refusal::WantOfRoom { .. } => true,
+        Refusal::NoSuchMember
+        | Refusal::SameMember
+        | Refusal::OutOfRange
+        | Refusal::WantOfRoom { .. } => true,
         _ => false,
     }
 }
@@ -45,7 +48,13 @@ impl Ledger {
     }
 
     // Of pay and reserve, before a router is asked.
-    pub(crate) fn pay_checks(&self, places: usize, payer: u32, payee: u32, amount: i32) -> Result<(), Refusal>
+    pub(crate) fn pay_checks(
+        &self,
+        places: usize,
+        payer: u32,
+        payee: u32,
+        amount: i32,
+    ) -> Result<(), Refusal>
         ensures verdict { λ r. ⌜ r ≡ payChecks (stateOf (now (self .entry))) places payer payee amount ⌝ }
         ensures vacant { λ r. ⌜ made r (λ _. isSome (now (self .entry) .standing) ≡ false) ⌝ }
     {

@@ -7,8 +7,8 @@ ghost use Rattle.credit.specs.Sums.{every};
 ghost use Rattle.credit.specs.Net.{bounded};
 ghost use Rattle.credit.specs.Pairs.{distinct};
 ghost use Rattle.ledger.specs.Sound.{restorable, proper, strained};
-use credit::line::Line;
 use crate::reservation::Claim;
+use credit::line::Line;
 
 // An open group of payments: the debts as at its begin, line by line, and whether it is spoiled.
 #[derive(Clone, Copy)]

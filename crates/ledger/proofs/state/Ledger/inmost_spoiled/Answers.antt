@@ -14,7 +14,7 @@ pub returns-then-depth-gt0 : need.returns-then-depth-gt0
 returns-then-depth-gt0 c =
     let sps = vec-items (c .args .self .now .savepoints) in
     sym (inmost-last (length (vec-items (c .args .self .now .lines))) sps (c .len-depth .result - 1) (c .index .result .now)
-      (omega (arith, c .args .self .now .savepoints .ok .0)) (c .index .ensures))
+    (omega (arith, c .args .self .now .savepoints .ok .0)) (c .index .ensures))
 
 pub returns-else-depth-gt0 : need.returns-else-depth-gt0
 returns-else-depth-gt0 c =

@@ -15,6 +15,6 @@ returns c =
     let sps = vec-items (c .args .self .now .savepoints) in
     let v = c .args .self .now .savepoints in
     elim (cases-eq (vec-len v) 0) [
-      inl e ↦ c .is-empty .ensures ∙ eq-eqb (vec-len v) 0 e ∙ sym (none-open n sps (omega (arith, v .ok .0, e)))
-    | inr e ↦ c .is-empty .ensures ∙ ne-eqb (vec-len v) 0 e ∙ sym (some-open n sps (omega (arith, v .ok .0, e)))
+      | inl e ↦ c .is-empty .ensures ∙ eq-eqb (vec-len v) 0 e ∙ sym (none-open n sps (omega (arith, v .ok .0, e)))
+      | inr e ↦ c .is-empty .ensures ∙ ne-eqb (vec-len v) 0 e ∙ sym (some-open n sps (omega (arith, v .ok .0, e)))
     ]
