@@ -86,6 +86,13 @@ still l = ap (withDebt l) (nought (l .debt))
     nought : (d : ℤ) → d -ℤ pos 0 ≡ d
     nought d = omega (arith, ints)
 
+-- a line without a place in the plan counts as one with a 0
+pub booked-any : (ls : List Line) (xs : List ℤ) (i : ℕ) → i < length ls → getD (booked ls xs) i noLine ≡ moved (getD ls i noLine) (getD xs i (pos 0))
+booked-any [] xs i h = absurd (omega arith)
+booked-any (l ∷ ls) [] i h = sym (still (getD (l ∷ ls) i noLine))
+booked-any (l ∷ ls) (x ∷ xs) zero h = refl
+booked-any (l ∷ ls) (x ∷ xs) (suc i) h = booked-any ls xs i (omega arith)
+
 pub booked-zeros : (ls : List Line) (k : ℕ) → booked ls (replicate k (pos 0)) ≡ ls
 booked-zeros [] k = refl
 booked-zeros (l ∷ ls) zero = refl

@@ -9,12 +9,13 @@ use lib.Signed.{leZ, _≤ℤ_}
 use lib.Dec.{ltb, eqb}
 use Rattle.std.proofs.shelf.Signed.{ints}
 use Rattle.std.proofs.shelf.Tests.{and-parts, and-from, ltb-true, cases-bool, both-ways}
+use Rattle.members.specs.Groups.{inside}
 use Rattle.credit.specs.declared.line.Line.{Line}
 use mathlib.Core.List.{List}
 use lib.ListN.{length, getD}
 use Rattle.credit.specs.Sums.{only, every}
 use Rattle.credit.specs.Net.{bounded, framed, affordable, inTrust, share, noLine}
-use Rattle.credit.specs.Rooms.{roomOnward, roomBack}
+use Rattle.credit.specs.Rooms.{roomOnward, roomBack, lineRoom, roomOut}
 use Rattle.credit.specs.Plans.{roomy, moved}
 use Rattle.credit.proofs.Sums.{every-at}
 
@@ -37,8 +38,10 @@ same-order a b c d f g = by (cases-bool (leZ a b)) (cases-bool (leZ c d))
 -- neither room is negative where the debt is affordable
 pub roomy-is : (l : Line) → roomy l ≡ affordable l
 roomy-is l =
-    rw (same-order (pos 0) (roomOnward l) (negℤ (l .«trust_b»)) (l .debt) (λ h. omega (arith, ints)) (λ h. omega (arith, ints))
-    , same-order (pos 0) (roomBack l) (l .debt) (l .«trust_a») (λ h. omega (arith, ints)) (λ h. omega (arith, ints)))
+    rw (
+      same-order (pos 0) (roomOnward l) (negℤ (l .«trust_b»)) (l .debt) (λ h. omega (arith, ints)) (λ h. omega (arith, ints)),
+      same-order (pos 0) (roomBack l) (l .debt) (l .«trust_a») (λ h. omega (arith, ints)) (λ h. omega (arith, ints)),
+    )
 
 pub record Bounds (l : Line) : Type 0 where
   pub order : l .a < l .b
@@ -60,10 +63,15 @@ bounded-facts l e =
     let y = and-parts (leZ (pos 0) (l .«trust_b»)) (leZ (l .«trust_b») (pos 1000000)) (t .1) in
     let d = and-parts (leZ (negℤ (l .«trust_b»)) (l .debt)) (leZ (l .debt) (l .«trust_a»)) (f .1) in
     record {
-      order = ltb-true (l .a) (l .b) (g .0); high = ltb-true (l .b) 64 (h .0);
-      no-less-a = leZ-order (pos 0) (l .«trust_a») (x .0); no-more-a = leZ-order (l .«trust_a») (pos 1000000) (x .1);
-      no-less-b = leZ-order (pos 0) (l .«trust_b») (y .0); no-more-b = leZ-order (l .«trust_b») (pos 1000000) (y .1);
-      least = leZ-order (negℤ (l .«trust_b»)) (l .debt) (d .0); most = leZ-order (l .debt) (l .«trust_a») (d .1) }
+      order = ltb-true (l .a) (l .b) (g .0);
+      high = ltb-true (l .b) 64 (h .0);
+      no-less-a = leZ-order (pos 0) (l .«trust_a») (x .0);
+      no-more-a = leZ-order (l .«trust_a») (pos 1000000) (x .1);
+      no-less-b = leZ-order (pos 0) (l .«trust_b») (y .0);
+      no-more-b = leZ-order (l .«trust_b») (pos 1000000) (y .1);
+      least = leZ-order (negℤ (l .«trust_b»)) (l .debt) (d .0);
+      most = leZ-order (l .debt) (l .«trust_a») (d .1);
+    }
 
 pub bounded-roomy : (l : Line) → bounded l ≡ true → roomy l ≡ true
 bounded-roomy l e = roomy-is l ∙ and-parts (framed l) (affordable l) e .1
@@ -93,3 +101,16 @@ share-range m l e = by (eqb m (l .a)) (eqb m (l .b))
 
 pub share-within : (m : ℕ) (ls : List Line) (i : ℕ) → every bounded ls ≡ true → i < length ls → (negℤ (pos 1000000) ≤ℤ share m (getD ls i noLine)) × (share m (getD ls i noLine) ≤ℤ pos 1000000)
 share-within m ls i e h = share-range m (getD ls i noLine) (every-at bounded ls i noLine e h)
+
+-- a line brings 0 to 2,000,000 to the room of a group
+pub room-range : (g : ℕ) (l : Line) → bounded l ≡ true → (pos 0 ≤ℤ roomOut g l) × (roomOut g l ≤ℤ pos 2000000)
+room-range g l e = by (inside g (l .a)) (inside g (l .b))
+  where
+    by : (s t : Bool) → (pos 0 ≤ℤ lineRoom s t l) × (lineRoom s t l ≤ℤ pos 2000000)
+    by true true = (omega (arith, ints), omega (arith, ints))
+    by true false = let b = bounded-facts l e in (omega (arith, ints), omega (arith, ints))
+    by false true = let b = bounded-facts l e in (omega (arith, ints), omega (arith, ints))
+    by false false = (omega (arith, ints), omega (arith, ints))
+
+pub room-within : (g : ℕ) (ls : List Line) (i : ℕ) → every bounded ls ≡ true → i < length ls → (pos 0 ≤ℤ roomOut g (getD ls i noLine)) × (roomOut g (getD ls i noLine) ≤ℤ pos 2000000)
+room-within g ls i e h = room-range g (getD ls i noLine) (every-at bounded ls i noLine e h)

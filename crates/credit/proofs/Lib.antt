@@ -1,5 +1,5 @@
 pub mod Sums
-pub mod Rooms
 pub mod Bounds
+pub mod Rooms
 pub mod Booked
 pub mod Sends

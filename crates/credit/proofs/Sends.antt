@@ -123,11 +123,13 @@ room-moved g p q l x n e d = by (joins-cases p q l e)
     onward true false = omega (arith, ints)
     onward false true = omega (arith, ints)
     onward false false = omega (arith, ints)
+
     back : (s t : Bool) → lineRoom s t (moved l (x -ℤ n)) -ℤ lineRoom s t (moved l x) ≡ only s n -ℤ only t n
     back true true = omega (arith, ints)
     back true false = omega (arith, ints)
     back false true = omega (arith, ints)
     back false false = omega (arith, ints)
+
     by : ((l .a ≡ p) × (l .b ≡ q)) ⊎ ((l .a ≡ q) × (l .b ≡ p)) → roomOut g (moved l (sentFrom l p x n)) -ℤ roomOut g (moved l x) ≡ only (inside g q) n -ℤ only (inside g p) n
     by (inl j) =
         ap (λ t. roomOut g (moved l t) -ℤ roomOut g (moved l x)) (sent-onward l p x n (j .0))

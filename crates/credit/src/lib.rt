@@ -3,3 +3,4 @@ pub mod booking;
 pub mod line;
 pub mod net;
 pub mod refusal;
+pub mod room;

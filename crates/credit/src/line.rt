@@ -3,8 +3,9 @@ ghost use lib.IntN.{pos, _-ℤ_, negℤ};
 ghost use lib.Signed.{_≤ℤ_};
 ghost use Rattle.credit.specs.Net.{inTrust, framed, affordable, bounded, share as shareOf};
 ghost use Rattle.credit.specs.Sums.{only};
-ghost use Rattle.credit.specs.Rooms.{roomOnward, roomBack};
+ghost use Rattle.credit.specs.Rooms.{roomOnward, roomBack, roomOut};
 ghost use Rattle.credit.specs.Plans.{moved};
+use members::group::Group;
 
 // A line of mutual credit between the members a and b, a below b. Amounts are in minutes.
 // A record may hold anything: what breaks the bounds of a line is refused where it is read.
@@ -84,5 +85,16 @@ impl Line {
         ensures { λ r. ⌜ r ≡ roomBack (moved (now (self .entry)) planned) ⌝ }
     {
         i64::from(self.trust_a) - self.debt_after(planned)
+    }
+
+    // What the line brings to the room of a group once a planned number is moved.
+    pub fn room_out(&self, planned: i32, group: Group) -> i64
+        ensures { λ r. ⌜ r ≡ roomOut (group .bits) (moved (now (self .entry)) planned) ⌝ }
+    {
+        match (group.holds(self.a), group.holds(self.b)) {
+            (true, false) => self.room_onward(planned),
+            (false, true) => self.room_back(planned),
+            _ => 0,
+        }
     }
 }

@@ -1,0 +1,34 @@
+// For the crates above: callers keep at most 256 lines, every line within its bounds, and a plan that fits.
+ghost use mathlib.Core.Path.{_≡_};
+ghost use mathlib.Core.Bool.{true};
+ghost use Prim.Native.Nat.{_≤_};
+ghost use lib.ListN.{length, getD};
+ghost use lib.IntN.{pos};
+ghost use Rattle.credit.specs.Sums.{every};
+ghost use Rattle.credit.specs.Net.{bounded};
+ghost use Rattle.credit.specs.Rooms.{room};
+ghost use Rattle.credit.specs.Plans.{booked, fits};
+use crate::line::Line;
+use members::group::Group;
+
+// What a plan moves on a line: 0 where it has no place for the line.
+fn planned(plan: &[i32], i: usize) -> i32
+    ensures { λ r. ⌜ r ≡ getD (now (plan .entry)) i (pos 0) ⌝ }
+{
+    if i < plan.len() { plan[i] } else { 0 }
+}
+
+// The room of a group after a plan: what its members can send out over all lines to outsiders. A plan may be shorter
+// than the lines; an empty one gives the room as the lines stand.
+pub fn group_room(lines: &[Line], plan: &[i32], group: Group) -> i32
+    requires few { ⌜ length (now lines) ≤ 256 ⌝ }
+    requires bounds { ⌜ every bounded (now lines) ≡ true ⌝ }
+    requires fit { ⌜ fits (now lines) (now plan) ≡ true ⌝ }
+    ensures { λ r. ⌜ r ≡ room (group .bits) (booked (now (lines .entry)) (now (plan .entry))) ⌝ }
+{
+    let mut sum = 0i64;
+    for i in 0..lines.len() {
+        sum += lines[i].room_out(planned(plan, i), group);
+    }
+    sum as i32
+}
