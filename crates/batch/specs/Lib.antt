@@ -4,3 +4,6 @@ pub mod Grammar
 pub mod Parts
 pub mod Forms
 pub mod Reads
+pub mod Drafts
+pub mod Sheets
+pub mod Samples

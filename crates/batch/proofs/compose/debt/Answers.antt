@@ -1,0 +1,13 @@
+use mir.Syntax.{w32}
+use mir.Val.{SFits}
+use Rattle.std.proofs.shelf.Signed.{toZ-ofZ}
+use Rattle.std.specs.Written.{signed}
+use Rattle.batch.specs.Drafts.{written, Adds}
+use Rattle.batch.proofs.Joins.{_▷_}
+use Rattle.batch.proofs.compose.debt.Needs as need
+
+pub returns : need.returns
+returns c =
+    let f : SFits w32 (c .args .debt) = c .fits .debt in
+    let s : Adds (written (c .text-3 .last .self)) (signed (c .args .debt)) (written (c .signed .last .self)) = simp toZ-ofZ at (c .signed .ensures) in
+    c .text .ensures ▷ (c .number .ensures ▷ (c .text-2 .ensures ▷ (c .number-2 .ensures ▷ (c .text-3 .ensures ▷ (s ▷ c .text-4 .ensures)))))
