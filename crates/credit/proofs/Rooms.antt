@@ -202,8 +202,12 @@ room-not-negative g (l ∷ ls) e =
     let h = and-parts (roomy l) (every roomy ls) e in
     omega (arith, ints, line-roomy (inside g (l .a)) (inside g (l .b)) l (h .0), room-not-negative g ls (h .1))
 
+-- from inside to outside a flow takes its amount of the room
+pub flow-out : (g : ℕ) (ls : List Line) (p q : ℕ) (n : ℤ) (from to : List ℤ) → AllEnds ls → p < 64 → q < 64 → Flow ls p q n from to → inside g p ≡ true → inside g q ≡ false → room g (booked ls to) ≡ room g (booked ls from) -ℤ n
+flow-out g ls p q n from to e hp hq f ip iq =
+    let h : room g (booked ls to) ≡ (room g (booked ls from) -ℤ n) +ℤ pos 0 = flow-room g ls p q n from to e hp hq f ∙ rw (ip, iq) in
+    omega (arith, ints)
+
 -- weak duality: what is routed fits every group between payer and payee
 pub weak-duality : (ls : List Line) (p q : ℕ) (n : ℤ) (entry exit : List ℤ) → AllEnds ls → p < 64 → q < 64 → Flow ls p q n entry exit → fits ls exit ≡ true → (g : ℕ) → inside g p ≡ true → inside g q ≡ false → n ≤ℤ room g (booked ls entry)
-weak-duality ls p q n entry exit e hp hq f t g ip iq =
-    let h : room g (booked ls exit) ≡ (room g (booked ls entry) -ℤ n) +ℤ pos 0 = flow-room g ls p q n entry exit e hp hq f ∙ rw (ip, iq) in
-    omega (arith, ints, h, room-not-negative g (booked ls exit) t)
+weak-duality ls p q n entry exit e hp hq f t g ip iq = omega (arith, ints, flow-out g ls p q n entry exit e hp hq f ip iq, room-not-negative g (booked ls exit) t)

@@ -1,4 +1,6 @@
+pub mod Laws
 pub mod Refusals
+pub mod Sentences
 pub mod Sums
 pub mod Net
 pub mod Rooms

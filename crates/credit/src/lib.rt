@@ -1,5 +1,6 @@
 // Lines of mutual credit, net positions, rooms, plans and flows, and the refusals with their numbers.
 pub mod booking;
+pub mod laws;
 pub mod line;
 pub mod net;
 pub mod refusal;
