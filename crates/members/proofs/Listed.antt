@@ -7,14 +7,15 @@ use Prim.Native.Nat.{ℕ, zero, suc, _+_, _-_, _/_, _%_, _^_, _≤_, _<_}
 use native.Mathlib.Nat.{pow-suc, div-one}
 use native.Mathlib.Numerals.{add-one}
 use native.Mathlib.Omega.{arith}
-use lib.Count.{ones, ones-step}
+use lib.Bits.{bitOr}
+use lib.Count.{trailingZeros, ones, ones-step}
 use lib.Dec.{eqb}
 use lib.ListN.{length}
 use Rattle.std.proofs.shelf.Bits.{shr-shr}
-use Rattle.std.proofs.shelf.Tests.{cases-eq, cases-bool, cond-true, cond-false, eq-eqb, ne-eqb, eqb-true, eqb-false, not-from-true, and-right, both-ways}
-use Rattle.members.specs.Groups.{inside, membersFrom, membersOf}
+use Rattle.std.proofs.shelf.Tests.{cases-eq, cases-bool, cond-true, cond-false, eq-eqb, ne-eqb, eqb-true, eqb-false, not-from-true, and-right, or-left, or-right, both-ways}
+use Rattle.members.specs.Groups.{inside, Has, membersFrom, membersOf}
 use Rattle.members.specs.Walks.{Took}
-use Rattle.members.proofs.Digits.{and-true, inside-zero, inside-below}
+use Rattle.members.proofs.Digits.{and-true, inside-zero, inside-or, inside-power, trailing}
 
 pub from-in : (k b g : ℕ) → inside g b ≡ true → membersFrom (suc k) b g ≡ b ∷ membersFrom k (suc b) g
 unfolding membersFrom
@@ -94,3 +95,65 @@ ones-listed g l = ap ones (sym (div-one g)) ∙ from-ones 64 0 g (omega (arith, 
 pub none-listed : (g : ℕ) → g ≡ 0 → membersOf g ≡ []
 unfolding membersOf
 none-listed g e = ap (λ x. membersFrom 64 0 x) e ∙ zero-listed 64 0
+
+from-le : (k b g : ℕ) → length (membersFrom k b g) ≤ k
+from-le zero b g = omega (arith, ap length (from-none b g))
+from-le (suc k) b g =
+    elim (cases-bool (inside g b)) [
+      | inl i ↦ omega (arith, ap length (from-in k b g i), from-le k (suc b) g)
+      | inr i ↦ omega (arith, ap length (from-out k b g i), from-le k (suc b) g)
+    ]
+
+module _ (a c : ℕ) (sub : (n : ℕ) → Has a n → Has c n) where
+  sub-le : (k b : ℕ) → length (membersFrom k b a) ≤ length (membersFrom k b c)
+  sub-le zero b = omega (arith, ap length (from-none b a))
+  sub-le (suc k) b =
+      elim (cases-bool (inside a b)) [
+        | inl i ↦ omega (arith, ap length (from-in k b a i), ap length (from-in k b c (sub b i)), sub-le k (suc b))
+        | inr i ↦
+            elim (cases-bool (inside c b)) [
+              | inl j ↦ omega (arith, ap length (from-out k b a i), ap length (from-in k b c j), sub-le k (suc b))
+              | inr j ↦ omega (arith, ap length (from-out k b a i), ap length (from-out k b c j), sub-le k (suc b))
+            ]
+      ]
+
+  module _ (m : ℕ) (lacks : inside a m ≡ false) (has : inside c m ≡ true) where
+    sub-lt : (k b : ℕ) → b ≤ m → m < b + k → length (membersFrom k b a) < length (membersFrom k b c)
+    sub-lt zero b l h = absurd (omega arith)
+    sub-lt (suc k) b l h =
+        elim (cases-eq b m) [
+          | inl e ↦
+              subst (λ x. length (membersFrom (suc k) x a) < length (membersFrom (suc k) x c)) (sym e)
+              (omega (arith, ap length (from-out k m a lacks), ap length (from-in k m c has), sub-le k (suc m)))
+          | inr d ↦
+              let on : length (membersFrom k (suc b) a) < length (membersFrom k (suc b) c) = sub-lt k (suc b) (omega arith) (omega arith) in
+              elim (cases-bool (inside a b)) [
+                | inl i ↦ omega (arith, ap length (from-in k b a i), ap length (from-in k b c (sub b i)))
+                | inr i ↦
+                    elim (cases-bool (inside c b)) [
+                      | inl j ↦ omega (arith, ap length (from-out k b a i), ap length (from-in k b c j))
+                      | inr j ↦ omega (arith, ap length (from-out k b a i), ap length (from-out k b c j))
+                    ]
+              ]
+        ]
+
+    -- a group that holds more has a higher count
+    pub count-more : m < 64 → length (membersOf a) < length (membersOf c)
+    unfolding membersOf
+    count-more l = sub-lt 64 0 (omega arith) (omega arith)
+
+-- a group that lacks a member has fewer than 64
+pub count-lacks : (g m : ℕ) → m < 64 → inside g m ≡ false → length (membersOf g) < 64
+unfolding membersOf
+count-lacks g m l lacks =
+    let c = bitOr g (2 ^ m) in
+    let sub : (n : ℕ) → Has g n → Has c n = λ n h. inside-or g (2 ^ m) n ∙ or-left _ _ h in
+    let has : inside c m ≡ true = inside-or g (2 ^ m) m ∙ or-right _ _ (inside-power m m ∙ eq-eqb m m refl) in
+    omega (arith, count-more g c sub m lacks has l, from-le 64 0 c)
+
+pub count-some : (g m : ℕ) → m < 64 → Has g m → 0 < length (membersOf g)
+count-some g m l h = omega (arith, count-more 0 g (λ n z. absurd (both-ways (inside 0 n) (inside-zero n) z)) m (inside-zero m) h l)
+
+-- a group that is not empty has a member
+pub some-member : (g : ℕ) → 0 < g → g < 2 ^ 64 → (m : ℕ) × (m < 64) × Has g m
+some-member g p l = let t = trailing 64 g p l in (trailingZeros 64 g, t .small, t .holds)

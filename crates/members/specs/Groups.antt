@@ -1,5 +1,6 @@
 -- A group of members is a 64-bit number: member m belongs to it where its binary digit m is 1.
-use mathlib.Core.Bool.{Bool, cond}
+use mathlib.Core.Path.{_≡_}
+use mathlib.Core.Bool.{Bool, true, cond}
 use mathlib.Core.List.{List, [], _∷_}
 use Prim.Native.Nat.{ℕ, zero, suc, _/_, _%_, _^_}
 use lib.Dec.{eqb}
@@ -7,6 +8,10 @@ use lib.Dec.{eqb}
 -- whether the group of these bits holds a member
 unfoldable pub inside : ℕ → ℕ → Bool
 inside g m = eqb (g / 2 ^ m % 2) 1
+
+-- the same as a statement
+abbrev pub Has : ℕ → ℕ → Type 0
+Has g m = inside g m ≡ true
 
 -- which of the k numbers from m on are members, rising
 unfoldable pub membersFrom : ℕ → ℕ → ℕ → List ℕ

@@ -1,0 +1,5 @@
+pub mod Answering
+mod Spreading
+mod Distances
+mod Tracing
+mod Emptied
