@@ -1,2 +1,3 @@
 pub mod Keeps
 pub mod Tally
+pub mod Agree
