@@ -93,6 +93,22 @@ booked-any (l ∷ ls) [] i h = sym (still (getD (l ∷ ls) i noLine))
 booked-any (l ∷ ls) (x ∷ xs) zero h = refl
 booked-any (l ∷ ls) (x ∷ xs) (suc i) h = booked-any ls xs i (omega arith)
 
+kept : (ls : List Line) (i : ℕ) → i < length ls → set ls i (moved (getD ls i noLine) (pos 0)) ≡ ls
+kept [] i h = absurd (omega arith)
+kept (l ∷ ls) zero h = ap (λ t. t ∷ ls) (still l)
+kept (l ∷ ls) (suc i) h = ap (λ t. l ∷ t) (kept ls i (omega arith))
+
+next-suc : (ls : List Line) (xs : List ℤ) (i : ℕ) → i < length ls → booked ls (take (suc i) xs) ≡ set (booked ls (take i xs)) i (moved (getD ls i noLine) (getD xs i (pos 0)))
+next-suc [] xs i h = absurd (omega arith)
+next-suc (l ∷ ls) [] zero h = ap (λ t. t ∷ ls) (sym (still l))
+next-suc (l ∷ ls) [] (suc i) h = ap (λ t. l ∷ t) (sym (kept ls i (omega arith)))
+next-suc (l ∷ ls) (x ∷ xs) zero h = ap (λ t. moved l x ∷ t) (booked-none ls)
+next-suc (l ∷ ls) (x ∷ xs) (suc i) h = ap (λ t. moved l x ∷ t) (next-suc ls xs i (omega arith))
+
+-- one place more of a plan that may be shorter than the lines
+pub booked-next : (ls : List Line) (xs : List ℤ) (i : ℕ) → i < length ls → booked ls (take (i + 1) xs) ≡ set (booked ls (take i xs)) i (moved (getD ls i noLine) (getD xs i (pos 0)))
+booked-next ls xs i h = rw add-one (next-suc ls xs i h)
+
 pub booked-zeros : (ls : List Line) (k : ℕ) → booked ls (replicate k (pos 0)) ≡ ls
 booked-zeros [] k = refl
 booked-zeros (l ∷ ls) zero = refl

@@ -3,5 +3,6 @@ pub mod booking;
 pub mod laws;
 pub mod line;
 pub mod net;
+mod plan;
 pub mod refusal;
 pub mod room;

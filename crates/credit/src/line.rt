@@ -88,7 +88,7 @@ impl Line {
     }
 
     // What the line brings to the room of a group once a planned number is moved.
-    pub fn room_out(&self, planned: i32, group: Group) -> i64
+    pub(crate) fn room_out(&self, planned: i32, group: Group) -> i64
         ensures { λ r. ⌜ r ≡ roomOut (group .bits) (moved (now (self .entry)) planned) ⌝ }
     {
         match (group.holds(self.a), group.holds(self.b)) {

@@ -64,7 +64,7 @@ impl Refusal {
     }
 
     // Why, in plain words.
-    pub fn reason(&self) -> &'static str
+    fn reason(&self) -> &'static str
         ensures { λ r. ⌜ now r ≡ reasonOf (now (self .entry)) ⌝ }
     {
         match self {
@@ -92,7 +92,7 @@ impl Refusal {
     }
 
     // The room of the group that was named, where room was wanting.
-    pub fn room(&self) -> Option<i32>
+    fn room(&self) -> Option<i32>
         ensures { λ r. ⌜ r ≡ roomOf (now (self .entry)) ⌝ }
     {
         match self {

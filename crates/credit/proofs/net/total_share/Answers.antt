@@ -6,7 +6,7 @@ use Rattle.std.proofs.shelf.Lists.{take-all}
 use Rattle.credit.specs.Net.{net, share, noLine}
 use Rattle.credit.proofs.Sums.{sum-more}
 use Rattle.credit.proofs.Bounds.{share-within}
-use Rattle.credit.proofs.net.net_position.Needs as need
+use Rattle.credit.proofs.net.total_share.Needs as need
 
 pub add-sum : need.add-sum
 add-sum c =
@@ -19,6 +19,7 @@ loop-line-again c =
     (omega (arith, ints, sum-more (share (c .args .member)) (c .args .lines .now) (c .loop-line .line-index) noLine (c .loop-line-test .taken)), omega (arith, ints), omega (arith, ints))
 
 pub returns : need.returns
-returns c =
-    _∙_ {b = c .loop-line .sum} (omega (arith, ints))
-    (sym (c .loop-line .sum-is) ∙ c .loop-line .inv .0 ∙ ap (net (c .args .member)) (take-all (c .loop-line .line-index) (c .args .lines .now) (c .loop-line-test .left)))
+returns c = record {
+  value = c .loop-line .inv .0 ∙ ap (net (c .args .member)) (take-all (c .loop-line .line-index) (c .args .lines .now) (c .loop-line-test .left));
+  bound = (omega (arith, ints), omega (arith, ints));
+}

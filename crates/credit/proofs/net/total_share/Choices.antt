@@ -4,7 +4,7 @@ use lib.ListN.{take}
 use lib.IntN.{pos, negℤ}
 use lib.Signed.{_≤ℤ_}
 use Rattle.credit.specs.Net.{net}
-use Rattle.credit.proofs.net.net_position.Given as given
+use Rattle.credit.proofs.net.total_share.Given as given
 
 abbrev pub Inv-loop-line : given.InvT-loop-line
 Inv-loop-line l =

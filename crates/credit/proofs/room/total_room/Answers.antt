@@ -15,7 +15,7 @@ use Rattle.credit.specs.Plans.{booked, moved}
 use Rattle.credit.proofs.Sums.{sum-more}
 use Rattle.credit.proofs.Bounds.{room-within}
 use Rattle.credit.proofs.Booked.{booked-any, length-booked, bounded-booked}
-use Rattle.credit.proofs.room.group_room.Needs as need
+use Rattle.credit.proofs.room.total_room.Needs as need
 
 -- what the line of the loop's place brings, and its range
 abbrev Here : need.After-room-out-sum → Type 0
@@ -52,5 +52,7 @@ pub returns : need.returns
 returns c =
     let ls = c .args .lines .now in
     let xs = c .args .plan .now in
-    _∙_ {b = c .loop-i .sum} (omega (arith, ints))
-    (sym (c .loop-i .sum-is) ∙ c .loop-i .inv .0 ∙ ap (room (c .args .group .bits)) (take-all (c .loop-i .i) (booked ls xs) (omega (arith, length-booked ls xs))))
+    record {
+      value = c .loop-i .inv .0 ∙ ap (room (c .args .group .bits)) (take-all (c .loop-i .i) (booked ls xs) (omega (arith, length-booked ls xs)));
+      bound = (omega (arith, ints), omega (arith, ints));
+    }

@@ -5,7 +5,7 @@ use lib.IntN.{pos}
 use lib.Signed.{_≤ℤ_}
 use Rattle.credit.specs.Rooms.{room}
 use Rattle.credit.specs.Plans.{booked}
-use Rattle.credit.proofs.room.group_room.Given as given
+use Rattle.credit.proofs.room.total_room.Given as given
 
 abbrev pub Inv-loop-i : given.InvT-loop-i
 Inv-loop-i l =

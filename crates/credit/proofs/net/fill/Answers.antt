@@ -9,7 +9,7 @@ use Rattle.std.proofs.shelf.Signed.{ints}
 use Rattle.std.proofs.shelf.Edits.{fill-by-more}
 use Rattle.std.proofs.shelf.Counted.{fill-by-all}
 use Rattle.credit.specs.Net.{net}
-use Rattle.credit.proofs.net.net_positions.Needs as need
+use Rattle.credit.proofs.net.fill.Needs as need
 
 pub loop-member-again : need.loop-member-again
 loop-member-again c =
