@@ -172,6 +172,7 @@ module _ (s t : State) (k : Alike s t) where
       lines : (b : Bool) (x y : List ℤ) → shape (cond b (s .lines) (withDebts (s .lines) x)) ≡ shape (cond b (t .lines) (withDebts (t .lines) y))
       lines true x y = k .shapes
       lines false x y = shape-withDebts (s .lines) x ∙ k .shapes ∙ sym (shape-withDebts (t .lines) y)
+
       go : (gs hs : List OpenGroup) → flags gs ≡ flags hs → (b : Bool) → Alike (closed s gs b) (closed t hs b)
       go [] [] e b = k
       go [] (h ∷ hs) e b = let z : _≡_ {A = ℕ} 0 1 = cc in no z
@@ -228,6 +229,7 @@ twin-pay s t z p q n r a s′ t′ hs ht k lv d f = go (payChecks s z p q n) ref
     by (Ok u) (Err y) f g c m d o e = absurd (never-both s t p q n y f g hs ht k lv c m o)
     by (Err x) (Ok y) f g c m d o e = absurd (never-both t s p q n x g f ht hs (alike-flip s t k) (λ i j. sym (lv i j)) c o m)
     by (Err x) (Err y) f g c m d o e = let h = same-number s t p q n x y f g hs ht c m o in twin (d .0) (d .1) (e .0) (e .1) (ap refused h) (alike-spoiled s t k x y h)
+
     go : (v : Verdict) → payChecks s z p q n ≡ v → Pays v s p q n r s′ → Pays v t p q n a t′ → Twin r a s′ t′
     go (Ok u) h d f = by (d .0) (f .0) (d .1) (f .1) (pay-checked s z p q n h .1) (d .2) (d .3) (f .2) (f .3)
     go (Err e) h d f = twin (d .0) (d .1) (f .0) (f .1) refl (alike-spoiled s t k e e refl)
@@ -240,6 +242,7 @@ twin-reserve s t z p q n r a s′ t′ hs ht k lv d f = go (payChecks s z p q n)
     by (Ok u) (Err y) f g c m d o e = absurd (never-both s t p q n y f g hs ht k lv c m o)
     by (Err x) (Ok y) f g c m d o e = absurd (never-both t s p q n x g f ht hs (alike-flip s t k) (λ i j. sym (lv i j)) c o m)
     by (Err x) (Err y) f g c m d o e = twin (d .0) (d .1) (e .0) (e .1) (ap refused (same-number s t p q n x y f g hs ht c m o)) k
+
     go : (v : Verdict) → payChecks s z p q n ≡ v → Reserves v s p q n r s′ → Reserves v t p q n a t′ → Twin r a s′ t′
     go (Ok u) h d f = by (d .0) (f .0) (d .1) (f .1) (pay-checked s z p q n h .1) (d .2) (d .3) (f .2) (f .3)
     go (Err e) h d f = twin (d .0) (d .1) (f .0) (f .1) refl k
@@ -312,7 +315,8 @@ twins (e ∷ ts) (f ∷ us) x y h =
       answers = ap₂ (λ (r : Reply) (rs : List Reply). r ∷ rs) (t .0) (i .answers);
       nets = ap₂ (λ (r : List ℤ) (rs : List (List ℤ)). r ∷ rs) (net-table (e .after .lines) (f .after .lines) (λ m b. known (e ∷ ts) x .nets m b ∙ ta m zero ∙ sym (known (f ∷ us) y .nets m b))) (i .nets);
       alike = t .1;
-      tallies = ta }
+      tallies = ta;
+    }
 
 pub law : Law
 law ts us x y h =
@@ -321,4 +325,5 @@ law ts us x y h =
       answers = t .answers;
       nets = t .nets;
       one = record { rooms = decides ts x; tallies = tallied ts x };
-      other = record { rooms = decides us y; tallies = tallied us y } }
+      other = record { rooms = decides us y; tallies = tallied us y };
+    }

@@ -111,9 +111,10 @@ stay-spoiled e s g = go (spoils e)
   where
     go : (b : Bool) → Kept-by other same s (cond b (withGroups s (spoilInmost (s .groups))) s)
     go true = record {
-        good = record { bounds = g .bounds; few = g .few; pairs = g .pairs; saved = subst (λ (v : List (List ℤ)). SavedOk (shape (s .lines)) v) (sym (saves-spoil (s .groups))) (g .saved); fitting = g .fitting };
-        follows = ((λ m h. refl), saves-spoil (s .groups), inl refl);
-        trusts = λ i j. refl }
+      good = record { bounds = g .bounds; few = g .few; pairs = g .pairs; saved = subst (λ (v : List (List ℤ)). SavedOk (shape (s .lines)) v) (sym (saves-spoil (s .groups))) (g .saved); fitting = g .fitting };
+      follows = ((λ m h. refl), saves-spoil (s .groups), inl refl);
+      trusts = λ i j. refl;
+    }
     go false = stay s g
 
 -- a routed payment
@@ -122,14 +123,16 @@ move s p q n plan st g ft d =
     let t = routed-tells (s .lines) p q n blank plan d in
     let sh = shape-booked (s .lines) plan in
     record {
-        good = record {
-            bounds = bounded-booked (s .lines) plan (g .bounds) (t .1 .fit);
-            few = subst (λ (v : List Line). length v ≤ 256) (sym sh) (g .few);
-            pairs = subst (λ (v : List Line). distinct v ≡ true) (sym sh) (g .pairs);
-            saved = subst (λ (v : List Line). SavedOk v (saves (s .groups))) (sym sh) (g .saved);
-            fitting = ft };
-        follows = ((λ m h. routed-net (s .lines) p q n plan d m), refl, sh);
-        trusts = λ i j. trust-alike (booked (s .lines) plan) (s .lines) sh i j }
+      good = record {
+        bounds = bounded-booked (s .lines) plan (g .bounds) (t .1 .fit);
+        few = subst (λ (v : List Line). length v ≤ 256) (sym sh) (g .few);
+        pairs = subst (λ (v : List Line). distinct v ≡ true) (sym sh) (g .pairs);
+        saved = subst (λ (v : List Line). SavedOk v (saves (s .groups))) (sym sh) (g .saved);
+        fitting = ft;
+      };
+      follows = ((λ m h. routed-net (s .lines) p q n plan d m), refl, sh);
+      trusts = λ i j. trust-alike (booked (s .lines) plan) (s .lines) sh i j;
+    }
 
 -- a call that is refused or does one thing
 plain : (Q : Answer → State → Type 0) (v : Verdict) (s : State) (a : Answer) (t : State) (r : Answer) (s′ : State) → ((e : Refusal) → Q (Refused e) s) → (v ≡ passes → Q a t) → Plain v s a t r s′ → Q r s′
@@ -146,6 +149,7 @@ step-pay s k p q n r s′ g d = go (payChecks s k p q n) refl d
     by : (v : Verdict) (plan : List ℤ) → payChecks s k p q n ≡ passes → Routes (s .lines) p q n blank v plan → Paid v plan s r s′ → Step (Pay k p q n) s r s′
     by (Ok u) plan h d t = subst₂ (λ (r : Answer) (v : State). Step (Pay k p q n) s r v) (sym (t .0)) (sym (t .1)) (move s p q n plan (s .standing) g (fit-none (s .standing) _ (pay-checked s k p q n h .0)) d)
     by (Err e) plan h d t = subst₂ (λ (r : Answer) (v : State). Step (Pay k p q n) s r v) (sym (t .0)) (sym (t .1)) (stay-spoiled e s g)
+
     go : (v : Verdict) → payChecks s k p q n ≡ v → Pays v s p q n r s′ → Step (Pay k p q n) s r s′
     go (Ok u) h d = by (d .0) (d .1) h (d .2) (d .3)
     go (Err e) h d = subst₂ (λ (r : Answer) (v : State). Step (Pay k p q n) s r v) (sym (d .0)) (sym (d .1)) (stay-spoiled e s g)
@@ -156,6 +160,7 @@ step-reserve s k p q n r s′ g d = go (payChecks s k p q n) refl d
     by : (v : Verdict) (plan : List ℤ) → payChecks s k p q n ≡ passes → Routes (s .lines) p q n blank v plan → Held v p q n s r s′ → Step (Reserve k p q n) s r s′
     by (Ok u) plan h x t = subst₂ (λ (r : Answer) (v : State). Step (Reserve k p q n) s r v) (sym (t .0)) (sym (t .1)) (stay-held s (Some (claim p q n)) g (record { ok = proper-claim p q n (pay-checked s k p q n h .1); room-left = unstrained-routed (s .lines) p q n plan (g .bounds) x }))
     by (Err e) plan h x t = subst₂ (λ (r : Answer) (v : State). Step (Reserve k p q n) s r v) (sym (t .0)) (sym (t .1)) (stay s g)
+
     go : (v : Verdict) → payChecks s k p q n ≡ v → Reserves v s p q n r s′ → Step (Reserve k p q n) s r s′
     go (Ok u) h d = by (d .0) (d .1) h (d .2) (d .3)
     go (Err e) h d = subst₂ (λ (r : Answer) (v : State). Step (Reserve k p q n) s r v) (sym (d .0)) (sym (d .1)) (stay s g)
@@ -178,9 +183,10 @@ step-begin : (s : State) (r : Answer) (s′ : State) → Good s → Does s Begin
 step-begin s r s′ g d =
     plain (λ r v. Step Begin s r v) (beginChecks s) s Done (begun s) r s′ (λ e. stay s g)
     (λ h. record {
-        good = record { bounds = g .bounds; few = g .few; pairs = g .pairs; saved = (ap (every bounded) (withDebts-shape (s .lines) (debts (s .lines)) ∙ withDebts-debts (s .lines)) ∙ g .bounds, g .saved); fitting = fit-none (s .standing) (s .lines) (check-passes (isSome (s .standing)) ReservationStands _ h .0) };
-        follows = (refl, refl);
-        trusts = λ i j. refl }) d
+      good = record { bounds = g .bounds; few = g .few; pairs = g .pairs; saved = (ap (every bounded) (withDebts-shape (s .lines) (debts (s .lines)) ∙ withDebts-debts (s .lines)) ∙ g .bounds, g .saved); fitting = fit-none (s .standing) (s .lines) (check-passes (isSome (s .standing)) ReservationStands _ h .0) };
+      follows = (refl, refl);
+      trusts = λ i j. refl;
+    }) d
 
 -- the inmost group closed
 none-of : (gs : List OpenGroup) → noneOpen gs ≡ true → saves gs ≡ []
@@ -196,20 +202,23 @@ close s undo g u h = go (s .groups) refl h undo
         let sv : SavedOk (shape (s .lines)) (x .saved ∷ saves gs) = subst (λ (v : List OpenGroup). SavedOk (shape (s .lines)) (saves v)) e (g .saved) in
         let sh = shape-withDebts (s .lines) (x .saved) in
         record {
-            good = record {
-                bounds = ap (every bounded) (sym (withDebts-shape (s .lines) (x .saved))) ∙ sv .0;
-                few = subst (λ (v : List Line). length v ≤ 256) (sym sh) (g .few);
+          good = record {
+            bounds = ap (every bounded) (sym (withDebts-shape (s .lines) (x .saved))) ∙ sv .0;
+            few = subst (λ (v : List Line). length v ≤ 256) (sym sh) (g .few);
             pairs = subst (λ (v : List Line). distinct v ≡ true) (sym sh) (g .pairs);
-                saved = subst (λ (v : List Line). SavedOk v (saves gs)) (sym sh) (sv .1);
-                fitting = fit-none (s .standing) _ u };
-            follows = (x .saved, refl, ap saves e);
-            trusts = λ i j. trust-alike (withDebts (s .lines) (x .saved)) (s .lines) sh i j }
+            saved = subst (λ (v : List Line). SavedOk v (saves gs)) (sym sh) (sv .1);
+            fitting = fit-none (s .standing) _ u;
+          };
+          follows = (x .saved, refl, ap saves e);
+          trusts = λ i j. trust-alike (withDebts (s .lines) (x .saved)) (s .lines) sh i j;
+        }
     go (x ∷ gs) e h false =
         let sv : SavedOk (shape (s .lines)) (x .saved ∷ saves gs) = subst (λ (v : List OpenGroup). SavedOk (shape (s .lines)) (saves v)) e (g .saved) in
         record {
-            good = record { bounds = g .bounds; few = g .few; pairs = g .pairs; saved = sv .1; fitting = g .fitting };
-            follows = (refl, x .saved, ap saves e);
-            trusts = λ i j. refl }
+          good = record { bounds = g .bounds; few = g .few; pairs = g .pairs; saved = sv .1; fitting = g .fitting };
+          follows = (refl, x .saved, ap saves e);
+          trusts = λ i j. refl;
+        }
 
 step-end : (s : State) (r : Answer) (s′ : State) → Good s → Does s End r s′ → Step End s r s′
 step-end s r s′ g d =
@@ -232,14 +241,16 @@ step-tidy s r s′ g d =
     let t = tidied-keeps (s .lines) (d .1) (sym (distinct-shape (s .lines)) ∙ g .pairs) (g .bounds) (d .2) in
     let sh = t .shapes in
     subst (λ (v : State). Step Tidy s r v) (sym (d .3)) (record {
-        good = record {
-            bounds = t .bounds;
-            few = subst (λ (v : List Line). length v ≤ 256) (sym sh) (g .few);
-            pairs = subst (λ (v : List Line). distinct v ≡ true) (sym sh) (g .pairs);
-            saved = subst (λ (v : List Line). SavedOk v (saves (s .groups))) (sym sh) (g .saved);
-            fitting = record { ok = g .fitting .ok; room-left = λ x. unstrained-alike (s .standing) x (s .lines) (d .1) (room-alike x (s .lines) (d .1) (ends-bounded (s .lines) (g .bounds)) (ends-bounded (d .1) (t .bounds)) (sym sh) (λ m h. sym (t .nets m))) (g .fitting .room-left x) } };
-        follows = ((λ m h. t .nets m), refl, inl sh);
-        trusts = λ i j. trust-alike (d .1) (s .lines) sh i j })
+      good = record {
+        bounds = t .bounds;
+        few = subst (λ (v : List Line). length v ≤ 256) (sym sh) (g .few);
+        pairs = subst (λ (v : List Line). distinct v ≡ true) (sym sh) (g .pairs);
+        saved = subst (λ (v : List Line). SavedOk v (saves (s .groups))) (sym sh) (g .saved);
+        fitting = record { ok = g .fitting .ok; room-left = λ x. unstrained-alike (s .standing) x (s .lines) (d .1) (room-alike x (s .lines) (d .1) (ends-bounded (s .lines) (g .bounds)) (ends-bounded (d .1) (t .bounds)) (sym sh) (λ m h. sym (t .nets m))) (g .fitting .room-left x) };
+      };
+      follows = ((λ m h. t .nets m), refl, inl sh);
+      trusts = λ i j. trust-alike (d .1) (s .lines) sh i j;
+    })
 
 -- ---- open
 every-push : (ls : List Line) (l : Line) → every bounded ls ≡ true → bounded l ≡ true → every bounded (ls ++ (l ∷ [])) ≡ true
@@ -261,6 +272,7 @@ new-bounded x y t u p ht hu = go (ltb x y) refl
         let m = and-parts (leZ (pos 0) w) (leZ w (pos 1000000)) hw in
         and-from _ _ (and-from _ _ (lt-ltb a b ab) (and-from _ _ (lt-ltb b 64 b64) (and-from _ _ hv hw)))
         (and-from (leZ (negℤ w) (pos 0)) (leZ (pos 0) v) (sym (omega (arith, ints, m))) (k .0))
+
     go : (b : Bool) → ltb x y ≡ b → bounded (cond b (record { a = x; b = y; «trust_a» = t; «trust_b» = u; debt = pos 0 }) (record { a = y; b = x; «trust_a» = u; «trust_b» = t; debt = pos 0 })) ≡ true
     go true e = line x y t u (ltb-true x y e) (p .payee) ht hu
     go false e = line y x u t (omega (arith, ltb-false x y e, p .apart)) (p .payer) hu ht
@@ -279,9 +291,10 @@ unjoined x y [] e = (refl, refl)
 unjoined x y (l ∷ ls) e =
     let h = or-parts (joins x y l) (joined x y ls) e in
     let k = or-parts (eqb x (l .a) && eqb y (l .b)) (eqb x (l .b) && eqb y (l .a)) (h .0) in
-    let r = unjoined x y ls (h .1) in
-    (omega (arith, ints, r, only-none (eqb x (l .a)) (eqb y (l .b)) (l .«trust_a») (k .0), only-none (eqb x (l .b)) (eqb y (l .a)) (l .«trust_b») (k .1)),
-    omega (arith, ints, r, only-none (eqb y (l .a)) (eqb x (l .b)) (l .«trust_a») (flip (eqb x (l .b)) (eqb y (l .a)) (k .1)), only-none (eqb y (l .b)) (eqb x (l .a)) (l .«trust_b») (flip (eqb x (l .a)) (eqb y (l .b)) (k .0))))
+    let r = unjoined x y ls (h .1) in (
+      omega (arith, ints, r, only-none (eqb x (l .a)) (eqb y (l .b)) (l .«trust_a») (k .0), only-none (eqb x (l .b)) (eqb y (l .a)) (l .«trust_b») (k .1)),
+      omega (arith, ints, r, only-none (eqb y (l .a)) (eqb x (l .b)) (l .«trust_a») (flip (eqb x (l .b)) (eqb y (l .a)) (k .1)), only-none (eqb y (l .b)) (eqb x (l .a)) (l .«trust_b») (flip (eqb x (l .a)) (eqb y (l .b)) (k .0))),
+    )
 
 -- the trusts of a new line
 pair-trust : (s s′ t t′ : Bool) (v w : ℤ) → (s && t) ≡ false → only s (only s′ v) +ℤ only t (only t′ w) ≡ cond (s && s′) v (cond (t && t′) w (pos 0))
@@ -318,8 +331,10 @@ open-trust ls x y t u d jn i j =
     go true c f g = omega (arith, ints, f refl)
     go false true f g = omega (arith, ints, g refl)
     go false false f g = omega (arith, ints)
+
     first : (eqb i x && eqb j y) ≡ true → trust i j ls ≡ pos 0
     first e = let h = and-parts (eqb i x) (eqb j y) e in subst₂ (λ (v w : ℕ). trust v w ls ≡ pos 0) (sym (eqb-true i x (h .0))) (sym (eqb-true j y (h .1))) (unjoined x y ls jn .0)
+
     second : (eqb i y && eqb j x) ≡ true → trust i j ls ≡ pos 0
     second e = let h = and-parts (eqb i y) (eqb j x) e in subst₂ (λ (v w : ℕ). trust v w ls ≡ pos 0) (sym (eqb-true i y (h .0))) (sym (eqb-true j x (h .1))) (unjoined x y ls jn .1)
 
@@ -331,6 +346,7 @@ open-net ls x y t u m = omega (arith, ints, sum-append (share m) ls (newLine x y
     none true false = refl
     none false true = refl
     none false false = refl
+
     go : (b : Bool) → share m (cond b (record { a = x; b = y; «trust_a» = t; «trust_b» = u; debt = pos 0 }) (record { a = y; b = x; «trust_a» = u; «trust_b» = t; debt = pos 0 })) ≡ pos 0
     go true = none (eqb m x) (eqb m y)
     go false = none (eqb m y) (eqb m x)
@@ -348,6 +364,7 @@ joins-new x y t u l e = go (ltb x y)
     parts =
         let h = or-parts (eqb x (l .a) && eqb y (l .b)) (eqb x (l .b) && eqb y (l .a)) e in
         (ap₂ (λ (v w : Bool). v && w) (eqb-sym (l .a) x) (eqb-sym (l .b) y) ∙ h .0, ap₂ (λ (v w : Bool). v && w) (eqb-sym (l .b) x) (eqb-sym (l .a) y) ∙ h .1)
+
     go : (b : Bool) → joins (l .a) (l .b) (cond b (record { a = x; b = y; «trust_a» = t; «trust_b» = u; debt = pos 0 }) (record { a = y; b = x; «trust_a» = u; «trust_b» = t; debt = pos 0 })) ≡ false
     go true = or-from (eqb (l .a) x && eqb (l .b) y) (eqb (l .a) y && eqb (l .b) x) (parts .0) (flip (eqb (l .b) x) (eqb (l .a) y) (parts .1))
     go false = or-from (eqb (l .a) y && eqb (l .b) x) (eqb (l .a) x && eqb (l .b) y) (flip (eqb (l .b) x) (eqb (l .a) y) (parts .1)) (parts .0)
@@ -377,14 +394,16 @@ step-open s x y t u r s′ g d = plain (λ r v. Step (Open x y t u) s r v) (open
         let tu = and-parts (inTrust t) (inTrust u) (not-false (inTrust t && inTrust u) (c7 .0)) in
         let sv = none-of (s .groups) (not-false (noneOpen (s .groups)) (c12 .0)) in
         record {
-            good = record {
-                bounds = every-push (s .lines) (newLine x y t u) (g .bounds) (new-bounded x y t u p (tu .0) (tu .1));
-                few = omega (arith, length-push (s .lines) (newLine x y t u), length-shape (s .lines), leb-false 256 (length (s .lines)) (c11 .0));
-                pairs = distinct-shape (s .lines ++ (newLine x y t u ∷ [])) ∙ distinct-push (s .lines) x y t u (sym (distinct-shape (s .lines)) ∙ g .pairs) (c10 .0);
-                saved = subst (λ (v : List (List ℤ)). SavedOk (shape (s .lines ++ (newLine x y t u ∷ []))) v) (sym sv) tt;
-                fitting = fit-none (s .standing) _ (c8 .0) };
-            follows = ((λ m h. open-net (s .lines) x y t u m), refl, inr sv);
-            trusts = open-trust (s .lines) x y t u (p .apart) (c10 .0) }
+          good = record {
+            bounds = every-push (s .lines) (newLine x y t u) (g .bounds) (new-bounded x y t u p (tu .0) (tu .1));
+            few = omega (arith, length-push (s .lines) (newLine x y t u), length-shape (s .lines), leb-false 256 (length (s .lines)) (c11 .0));
+            pairs = distinct-shape (s .lines ++ (newLine x y t u ∷ [])) ∙ distinct-push (s .lines) x y t u (sym (distinct-shape (s .lines)) ∙ g .pairs) (c10 .0);
+            saved = subst (λ (v : List (List ℤ)). SavedOk (shape (s .lines ++ (newLine x y t u ∷ []))) v) (sym sv) tt;
+            fitting = fit-none (s .standing) _ (c8 .0);
+          };
+          follows = ((λ m h. open-net (s .lines) x y t u m), refl, inr sv);
+          trusts = open-trust (s .lines) x y t u (p .apart) (c10 .0);
+        }
 
 pub step-keeps : (s : State) (c : Call) (r : Answer) (s′ : State) → Good s → Does s c r s′ → Kept-by (event c (reply r)) (trustBy c (reply r)) s s′
 step-keeps s (Open x y t u) r s′ g d = step-open s x y t u r s′ g d

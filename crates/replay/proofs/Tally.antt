@@ -53,25 +53,30 @@ levels-other sh (ds ∷ dss) f d h = (h .0, levels-other sh dss f (suc d) (h .1)
 
 counted : (v : Event) (f : ℕ → ℕ → ℤ) (s s′ : State) → Follows v s s′ → Counted f s → Counted (next v f) s′
 counted (pays p q n) f s s′ w c = record {
-    now = λ m h. w .0 m h ∙ ap (λ (x : ℤ). (x -ℤ only (eqb m p) n) +ℤ only (eqb m q) n) (c .now m h);
-    back = subst₂ (λ (sh : List Line) (dss : List (List ℤ)). Levels sh dss (next (pays p q n) f) zero) (sym (w .2)) (sym (w .1)) (levels-pays p q n (shape (s .lines)) (saves (s .groups)) f zero (c .back)) }
+  now = λ m h. w .0 m h ∙ ap (λ (x : ℤ). (x -ℤ only (eqb m p) n) +ℤ only (eqb m q) n) (c .now m h);
+  back = subst₂ (λ (sh : List Line) (dss : List (List ℤ)). Levels sh dss (next (pays p q n) f) zero) (sym (w .2)) (sym (w .1)) (levels-pays p q n (shape (s .lines)) (saves (s .groups)) f zero (c .back));
+}
 counted begins f s s′ w c = record {
-    now = λ m h. ap (net m) (w .0) ∙ c .now m h;
-    back = subst₂ (λ (ls : List Line) (dss : List (List ℤ)). Levels (shape ls) dss (next begins f) zero) (sym (w .0)) (sym (w .1))
-        ((λ m h. ap (net m) (withDebts-shape (s .lines) (debts (s .lines)) ∙ withDebts-debts (s .lines)) ∙ c .now m h), levels-begins (shape (s .lines)) (saves (s .groups)) f zero (c .back)) }
+  now = λ m h. ap (net m) (w .0) ∙ c .now m h;
+  back = subst₂ (λ (ls : List Line) (dss : List (List ℤ)). Levels (shape ls) dss (next begins f) zero) (sym (w .0)) (sym (w .1))
+      ((λ m h. ap (net m) (withDebts-shape (s .lines) (debts (s .lines)) ∙ withDebts-debts (s .lines)) ∙ c .now m h), levels-begins (shape (s .lines)) (saves (s .groups)) f zero (c .back));
+}
 counted keeps f s s′ w c =
     let lv : Levels (shape (s .lines)) (w .1 ∷ saves (s′ .groups)) f zero = subst (λ (dss : List (List ℤ)). Levels (shape (s .lines)) dss f zero) (w .2) (c .back) in
     record {
-    now = λ m h. ap (net m) (w .0) ∙ c .now m h;
-    back = subst (λ (ls : List Line). Levels (shape ls) (saves (s′ .groups)) (next keeps f) zero) (sym (w .0)) (levels-keeps (shape (s .lines)) (saves (s′ .groups)) f zero (lv .1)) }
+      now = λ m h. ap (net m) (w .0) ∙ c .now m h;
+      back = subst (λ (ls : List Line). Levels (shape ls) (saves (s′ .groups)) (next keeps f) zero) (sym (w .0)) (levels-keeps (shape (s .lines)) (saves (s′ .groups)) f zero (lv .1));
+    }
 counted undoes f s s′ w c =
     let lv : Levels (shape (s .lines)) (w .0 ∷ saves (s′ .groups)) f zero = subst (λ (dss : List (List ℤ)). Levels (shape (s .lines)) dss f zero) (w .2) (c .back) in
     record {
-    now = λ m h. ap (net m) (w .1 ∙ sym (withDebts-shape (s .lines) (w .0))) ∙ lv .0 m h;
-    back = subst (λ (sh : List Line). Levels sh (saves (s′ .groups)) (next undoes f) zero) (sym (ap shape (w .1) ∙ shape-withDebts (s .lines) (w .0))) (levels-undoes (shape (s .lines)) (saves (s′ .groups)) f zero (lv .1)) }
+      now = λ m h. ap (net m) (w .1 ∙ sym (withDebts-shape (s .lines) (w .0))) ∙ lv .0 m h;
+      back = subst (λ (sh : List Line). Levels sh (saves (s′ .groups)) (next undoes f) zero) (sym (ap shape (w .1) ∙ shape-withDebts (s .lines) (w .0))) (levels-undoes (shape (s .lines)) (saves (s′ .groups)) f zero (lv .1));
+    }
 counted other f s s′ w c = record {
-    now = λ m h. w .0 m h ∙ c .now m h;
-    back = subst (λ (dss : List (List ℤ)). Levels (shape (s′ .lines)) dss (next other f) zero) (sym (w .1)) (by (w .2)) }
+  now = λ m h. w .0 m h ∙ c .now m h;
+  back = subst (λ (dss : List (List ℤ)). Levels (shape (s′ .lines)) dss (next other f) zero) (sym (w .1)) (by (w .2));
+}
   where
     by : (shape (s′ .lines) ≡ shape (s .lines)) ⊎ (saves (s .groups) ≡ []) → Levels (shape (s′ .lines)) (saves (s .groups)) (next other f) zero
     by (inl e) = subst (λ (sh : List Line). Levels sh (saves (s .groups)) (next other f) zero) (sym e) (levels-other (shape (s .lines)) (saves (s .groups)) f zero (c .back))
@@ -87,19 +92,21 @@ pub record Known (es : List Turn) : Type 0 where
 pub known : (es : List Turn) → Run es → Known es
 known [] r =
     record {
-    good = record { bounds = refl; few = omega arith; pairs = refl; saved = tt; fitting = record { ok = refl; room-left = λ g. refl } };
-    trusts = λ i j. refl;
-    nets = λ m h. refl;
-    counted-at = record { now = λ m h. refl; back = tt } }
+      good = record { bounds = refl; few = omega arith; pairs = refl; saved = tt; fitting = record { ok = refl; room-left = λ g. refl } };
+      trusts = λ i j. refl;
+      nets = λ m h. refl;
+      counted-at = record { now = λ m h. refl; back = tt };
+    }
 known (e ∷ es) r =
     let k = known es (r .1) in
     let o = step-keeps (latest es) (e .call) (e .answer) (e .after) (k .good) (r .0) in
     let c = counted (event (e .call) (reply (e .answer))) (λ m d. tally m es d) (latest es) (e .after) (o .follows) (k .counted-at) in
     record {
-    good = o .good;
-    trusts = λ i j. o .trusts i j ∙ ap (λ (v : ℤ). trustBy (e .call) (reply (e .answer)) i j v) (k .trusts i j);
-    nets = c .now;
-    counted-at = c }
+      good = o .good;
+      trusts = λ i j. o .trusts i j ∙ ap (λ (v : ℤ). trustBy (e .call) (reply (e .answer)) i j v) (k .trusts i j);
+      nets = c .now;
+      counted-at = c;
+    }
 
 -- payments alone move net positions
 pub tallied : (es : List Turn) → Run es → NetsTally es

@@ -44,17 +44,20 @@ module _ (ls : List Line) (c : List ℕ) (k : ℕ) (d : distinct ls ≡ true) (b
         apart = round-once c k (r .different);
         owing = owing;
         least = (p .0, p .1, p .2, all ∙ sym (p .3));
-        some = positive (p .0) (p .1) (p .2) (all ∙ sym (p .3)) }
+        some = positive (p .0) (p .1) (p .2) (all ∙ sym (p .3));
+      }
     where
       owing : (x y : ℕ) → on x y (steps (round c k)) ≡ true → v ≤ℤ owes x y ls
       owing x y e =
           let s = rounds-ringed ls c k r x y e in
           omega (arith, ints, owes-at x y ls d b s, under-step (round c k) v (getD ls (s .0) noLine) x y (at-order (s .0) (s .1) .order) (u (s .0) (s .1)) (s .2) e)
+
       whole : (x y : ℕ) → ((x ≡ getD ls (m .0) noLine .b) × (y ≡ getD ls (m .0) noLine .a)) ⊎ ((x ≡ getD ls (m .0) noLine .a) × (y ≡ getD ls (m .0) noLine .b))
           → (owes (getD ls (m .0) noLine .b) (getD ls (m .0) noLine .a) ls ≡ getD ls (m .0) noLine .debt) × (owes (getD ls (m .0) noLine .a) (getD ls (m .0) noLine .b) ls ≡ negℤ (getD ls (m .0) noLine .debt))
           → owes x y ls ≡ lineOwes x y (getD ls (m .0) noLine)
       whole x y (inl e) o = subst₂ (λ (s t : ℕ). owes s t ls ≡ lineOwes s t (getD ls (m .0) noLine)) (sym (e .0)) (sym (e .1)) (o .0 ∙ sym (owes-onward (getD ls (m .0) noLine) (at-order (m .0) (m .1) .order)))
       whole x y (inr e) o = subst₂ (λ (s t : ℕ). owes s t ls ≡ lineOwes s t (getD ls (m .0) noLine)) (sym (e .0)) (sym (e .1)) (o .1 ∙ sym (owes-back (getD ls (m .0) noLine) (at-order (m .0) (m .1) .order)))
+
       positive : (x y : ℕ) → on x y (steps (round c k)) ≡ true → owes x y ls ≡ v → pos 0 <ℤ v
       positive x y e f = let s = rounds-ringed ls c k r x y e in omega (arith, ints, owes-at x y ls d b s, f, s .2)
 
@@ -65,14 +68,19 @@ module _ (ls : List Line) (c : List ℕ) (k : ℕ) (d : distinct ls ≡ true) (b
     where
       s : DebtStep ls (getD c k 0) (getD c 0 0)
       s = r .closing
+
       l : Line
       l = getD ls (s .0) noLine
+
       f : Bounds l
       f = at-order (s .0) (s .1)
+
       top : v ≡ pos 1000000
       top = e
+
       here : on (getD c k 0) (getD c 0 0) (steps (round c k)) ≡ true
       here = closing-on c k (omega (arith, r .different .long, r .different .short))
+
       met : ((getD c k 0 ≡ l .b) × (getD c 0 0 ≡ l .a) × (pos 0 <ℤ l .debt)) ⊎ ((getD c k 0 ≡ l .a) × (getD c 0 0 ≡ l .b) × (l .debt <ℤ pos 0)) → Met (round c k) v l
       met (inl q) = let e = sym (ap₂ (λ (x y : ℕ). on x y (steps (round c k))) (q .0) (q .1)) ∙ here in inl (e, omega (arith, ints, top, f .most, f .no-more-a, u (s .0) (s .1) .0 e))
       met (inr q) = let e = sym (ap₂ (λ (x y : ℕ). on x y (steps (round c k))) (q .0) (q .1)) ∙ here in inr (e, omega (arith, ints, top, f .least, f .no-more-b, u (s .0) (s .1) .1 e))
@@ -93,6 +101,7 @@ module _ (P : ℕ → Type 0) where
     where
       rest : (x y : ℕ) → on x y (walk k ms goal) ≡ true → P x → P y
       rest x y f = s x y (or-right (eqb here x && eqb k y) (on x y (walk k ms goal)) f)
+
       go : ((eqb here x && eqb k y) ≡ true) ⊎ (on x y (walk k ms goal) ≡ true) → (on x y (walk k ms goal) ≡ true → P y → P goal) → P goal
       go (inl h) ih = through k ms goal rest (subst P (sym (eqb-true k y (and-parts (eqb here x) (eqb k y) h .1))) p)
       go (inr h) ih = ih h p
@@ -107,6 +116,7 @@ module _ (P : ℕ → Type 0) where
     where
       rest : (x y : ℕ) → on x y (walk k ms goal) ≡ true → P x → P y
       rest x y f = s x y (or-right (eqb here x && eqb k y) (on x y (walk k ms goal)) f)
+
       go : ((eqb here x && eqb k y) ≡ true) ⊎ (on x y (walk k ms goal) ≡ true) → (on x y (walk k ms goal) ≡ true → P x) → P x
       go (inl h) ih = subst P (eqb-true here x (and-parts (eqb here x) (eqb k y) h .0)) p
       go (inr h) ih = ih h
@@ -125,11 +135,13 @@ clear-separated ls i x y g b o hy hx cl u v q ms r e =
   where
     l : Line
     l = getD ls i noLine
+
     match : ((x ≡ l .b) × (y ≡ l .a) × (pos 0 <ℤ l .debt)) ⊎ ((x ≡ l .a) × (y ≡ l .b) × (l .debt <ℤ pos 0)) → ((u ≡ l .b) × (v ≡ l .a) × (pos 0 <ℤ l .debt)) ⊎ ((u ≡ l .a) × (v ≡ l .b) × (l .debt <ℤ pos 0)) → (u ≡ x) × (v ≡ y)
     match (inl h) (inl k) = (k .0 ∙ sym (h .0), k .1 ∙ sym (h .1))
     match (inl h) (inr k) = absurd (omega (arith, ints, h .2, k .2))
     match (inr h) (inl k) = absurd (omega (arith, ints, h .2, k .2))
     match (inr h) (inr k) = (k .0 ∙ sym (h .0), k .1 ∙ sym (h .1))
+
     same : (u ≡ x) × (v ≡ y)
     same = match (owes-cases x y l o) (owes-cases u v l q)
 
@@ -187,6 +199,7 @@ tidied-clear ls ks r c = record { rings = r .0; cancels = r .1; clear = left }
   where
     owed : (ms : List ℕ) (v : ℤ) → Ring ks ms v → Ringed ks ms
     owed ms v q x y e = step-from-owes x y ks (omega (arith, ints, q .some, q .owing x y e))
+
     left : (ms : List ℕ) (v : ℤ) → Ring ks ms v → ⊥
     left ms v q =
         let f = first-step ms (q .three) in
@@ -212,6 +225,7 @@ ring-nearer ls ms v i x y r d b h o e =
   where
     l : Line
     l = getD ls i noLine
+
     go : ((x ≡ l .b) × (y ≡ l .a) × (pos 0 <ℤ l .debt)) ⊎ ((x ≡ l .a) × (y ≡ l .b) × (l .debt <ℤ pos 0)) → (on (l .b) (l .a) (steps ms) || on (l .a) (l .b) (steps ms)) ≡ true
     go (inl k) = or-left (on (l .b) (l .a) (steps ms)) (on (l .a) (l .b) (steps ms)) (sym (ap₂ (λ (s t : ℕ). on s t (steps ms)) (k .0) (k .1)) ∙ e)
     go (inr k) = or-right (on (l .b) (l .a) (steps ms)) (on (l .a) (l .b) (steps ms)) (sym (ap₂ (λ (s t : ℕ). on s t (steps ms)) (k .0) (k .1)) ∙ e)
@@ -220,22 +234,27 @@ ring-nearer ls ms v i x y r d b h o e =
 pub rounds-from : (ls : List Line) (i x y : ℕ) (c : List ℕ) (k : ℕ) → distinct ls ≡ true → every bounded ls ≡ true → i < length ls → pos 0 <ℤ lineOwes x y (getD ls i noLine)
     → Apart c k → getD c 0 0 ≡ y → getD c k 0 ≡ x → ((j : ℕ) → j < k → DebtStep ls (getD c j 0) (getD c (j + 1) 0)) → Rounds ls c k
 rounds-from ls i x y c k d b h o a first last linked = record {
-    three = long (cases-eq k 0) (cases-eq k 1);
-    different = a;
-    linked = linked;
-    closing = subst₂ (λ (s t : ℕ). DebtStep ls s t) (sym last) (sym first) (i, h, o) }
+  three = long (cases-eq k 0) (cases-eq k 1);
+  different = a;
+  linked = linked;
+  closing = subst₂ (λ (s t : ℕ). DebtStep ls s t) (sym last) (sym first) (i, h, o);
+}
   where
     l : Line
     l = getD ls i noLine
+
     f : Bounds l
     f = bounded-facts l (every-at bounded ls i noLine b h)
+
     -- the two do not owe each other both ways, and differ
     one-way : ((x ≡ l .b) × (y ≡ l .a) × (pos 0 <ℤ l .debt)) ⊎ ((x ≡ l .a) × (y ≡ l .b) × (l .debt <ℤ pos 0)) → owes y x ls ≤ℤ pos 0
     one-way (inl p) = omega (arith, ints, owed-at ls i d b h .1, p .2, ap₂ (λ (s t : ℕ). owes s t ls) (p .1) (p .0))
     one-way (inr p) = omega (arith, ints, owed-at ls i d b h .0, p .2, ap₂ (λ (s t : ℕ). owes s t ls) (p .1) (p .0))
+
     differ : ((x ≡ l .b) × (y ≡ l .a) × (pos 0 <ℤ l .debt)) ⊎ ((x ≡ l .a) × (y ≡ l .b) × (l .debt <ℤ pos 0)) → x ≢ y
     differ (inl p) e = omega (arith, f .order, p .0, p .1, e)
     differ (inr p) e = omega (arith, f .order, p .0, p .1, e)
+
     long : (k ≡ 0) ⊎ (k ≡ 0 → ⊥) → (k ≡ 1) ⊎ (k ≡ 1 → ⊥) → 2 ≤ k
     long (inl e) q = absurd (differ (owes-cases x y l o) (sym last ∙ ap (λ (n : ℕ). getD c n 0) e ∙ first))
     long (inr e) (inl q) =

@@ -101,6 +101,7 @@ lower-share m x y c l d = go (eqb x (l .b) && eqb y (l .a)) (eqb x (l .a) && eqb
   where
     moved : (u v : ℤ) → share m (withDebt l ((l .debt -ℤ u) +ℤ v)) ≡ ((share m l -ℤ (only (eqb m (l .a)) u -ℤ only (eqb m (l .b)) u)) +ℤ (only (eqb m (l .a)) v -ℤ only (eqb m (l .b)) v))
     moved u v = omega (arith, ints, spread (eqb m (l .a)) (l .debt) u v, spread (eqb m (l .b)) (l .debt) u v)
+
     go : (p q : Bool) → (eqb x (l .b) && eqb y (l .a)) ≡ p → (eqb x (l .a) && eqb y (l .b)) ≡ q → share m (withDebt l ((l .debt -ℤ only p c) +ℤ only q c)) ≡ share m l +ℤ only (q || p) (only (eqb m x) c -ℤ only (eqb m y) c)
     go true true e f =
         let h = and-parts (eqb x (l .b)) (eqb y (l .a)) e in
@@ -138,10 +139,13 @@ cancel-net : (m : ℕ) (c : ℤ) (ss : List (ℕ × ℕ)) (ls : List Line) → d
 cancel-net m c [] ls d h = omega (arith, ints)
 cancel-net m c (s ∷ ss) ls d h =
     let sh = sym (shape-lower (s .0) (s .1) c ls) in
-    omega (arith, ints
-    , cancel-net m c ss (lower (s .0) (s .1) c ls) (distinct-alike ls (lower (s .0) (s .1) c ls) sh d) (lined-alike ss ls (lower (s .0) (s .1) c ls) sh (h .2))
-    , lower-sum m (s .0) (s .1) c ls (h .0)
-    , count-one (s .0) (s .1) (only (eqb m (s .0)) c -ℤ only (eqb m (s .1)) c) ls d (h .1))
+    omega (
+      arith,
+      ints,
+      cancel-net m c ss (lower (s .0) (s .1) c ls) (distinct-alike ls (lower (s .0) (s .1) c ls) sh d) (lined-alike ss ls (lower (s .0) (s .1) c ls) sh (h .2)),
+      lower-sum m (s .0) (s .1) c ls (h .0),
+      count-one (s .0) (s .1) (only (eqb m (s .0)) c -ℤ only (eqb m (s .1)) c) ls d (h .1),
+    )
 
 -- round a ring nothing is brought to anybody
 telescope : (m : ℕ) (c : ℤ) (here : ℕ) (ms : List ℕ) (goal : ℕ) → brings m c (walk here ms goal) ≡ only (eqb m here) c -ℤ only (eqb m goal) c
@@ -177,8 +181,10 @@ lined c (s ∷ ss) ls p h = (differ, has-line (joined (s .0) (s .1) ls) refl, li
   where
     more : c ≤ℤ owes (s .0) (s .1) ls
     more = h (s .0) (s .1) (on-here s ss)
+
     differ : s .0 ≢ s .1
     differ e = omega (arith, ints, p, more, owes-self (s .0) ls, ap (λ (v : ℕ). owes (s .0) v ls) e)
+
     has-line : (b : Bool) → joined (s .0) (s .1) ls ≡ b → joined (s .0) (s .1) ls ≡ true
     has-line true e = e
     has-line false e = absurd (omega (arith, ints, p, more, owes-none (s .0) (s .1) ls e))
@@ -265,10 +271,11 @@ own-cons l all (k ∷ ks) j o =
     let h = or-parts (joins (l .a) (l .b) k) (joined (l .a) (l .b) ks) j in
     let g = or-parts (eqb (l .a) (k .a) && eqb (l .b) (k .b)) (eqb (l .a) (k .b) && eqb (l .b) (k .a)) (h .0) in
     let u : (eqb (k .a) (l .a) && eqb (k .b) (l .b)) ≡ false = ap₂ (λ (x y : Bool). x && y) (eqb-sym (k .a) (l .a)) (eqb-sym (k .b) (l .b)) ∙ g .0 in
-    let v : (eqb (k .b) (l .a) && eqb (k .a) (l .b)) ≡ false = ap₂ (λ (x y : Bool). x && y) (eqb-sym (k .b) (l .a)) (eqb-sym (k .a) (l .b)) ∙ g .1 in
-    (omega (arith, ints, o, only-none (eqb (k .b) (l .b) && eqb (k .a) (l .a)) (l .debt) (flip (eqb (k .a) (l .a)) (eqb (k .b) (l .b)) u), only-none (eqb (k .b) (l .a) && eqb (k .a) (l .b)) (l .debt) v),
-    omega (arith, ints, o, only-none (eqb (k .a) (l .b) && eqb (k .b) (l .a)) (l .debt) (flip (eqb (k .b) (l .a)) (eqb (k .a) (l .b)) v), only-none (eqb (k .a) (l .a) && eqb (k .b) (l .b)) (l .debt) u),
-    own-cons l all ks (h .1) (o .2))
+    let v : (eqb (k .b) (l .a) && eqb (k .a) (l .b)) ≡ false = ap₂ (λ (x y : Bool). x && y) (eqb-sym (k .b) (l .a)) (eqb-sym (k .a) (l .b)) ∙ g .1 in (
+      omega (arith, ints, o, only-none (eqb (k .b) (l .b) && eqb (k .a) (l .a)) (l .debt) (flip (eqb (k .a) (l .a)) (eqb (k .b) (l .b)) u), only-none (eqb (k .b) (l .a) && eqb (k .a) (l .b)) (l .debt) v),
+      omega (arith, ints, o, only-none (eqb (k .a) (l .b) && eqb (k .b) (l .a)) (l .debt) (flip (eqb (k .b) (l .a)) (eqb (k .a) (l .b)) v), only-none (eqb (k .a) (l .a) && eqb (k .b) (l .b)) (l .debt) u),
+      own-cons l all ks (h .1) (o .2),
+    )
 
 -- the two ends of each line differ
 abbrev Split : List Line → Type 0
@@ -308,11 +315,13 @@ line-eases l all ms c r x y =
     go : (p : Bool) → on (l .b) (l .a) (steps ms) ≡ p → (q : Bool) → on (l .a) (l .b) (steps ms) ≡ q → Falls (l .debt) ((l .debt -ℤ only p c) +ℤ only q c) (p || q)
     go true e true f = absurd (omega (arith, ints, r .some, r .owing (l .b) (l .a) e, r .owing (l .a) (l .b) f, x, y))
     go true e false f = record {
-        shrinks = inl (omega (arith, ints, r .some, r .owing (l .b) (l .a) e, x), omega (arith, ints, r .some, r .owing (l .b) (l .a) e, x));
-        less = λ t h. omega (arith, ints, r .some, h) }
+      shrinks = inl (omega (arith, ints, r .some, r .owing (l .b) (l .a) e, x), omega (arith, ints, r .some, r .owing (l .b) (l .a) e, x));
+      less = λ t h. omega (arith, ints, r .some, h);
+    }
     go false e true f = record {
-        shrinks = inr (omega (arith, ints, r .some, r .owing (l .a) (l .b) f, y), omega (arith, ints, r .some, r .owing (l .a) (l .b) f, y));
-        less = λ t h. omega (arith, ints, r .some, h) }
+      shrinks = inr (omega (arith, ints, r .some, r .owing (l .a) (l .b) f, y), omega (arith, ints, r .some, r .owing (l .a) (l .b) f, y));
+      less = λ t h. omega (arith, ints, r .some, h);
+    }
     go false e false f = record { shrinks = still (by-ltZ (l .debt) (pos 0) inl inr); less = λ t h. let z : _≡_ {A = ℕ} 0 1 = cc in no z }
       where
         still : (l .debt <ℤ pos 0) ⊎ (pos 0 ≤ℤ l .debt) → Shrinks (l .debt) ((l .debt -ℤ pos 0) +ℤ pos 0)
@@ -375,9 +384,10 @@ ring-falls ls ms c r d b i h =
 
 ring-eases : (ls : List Line) (ms : List ℕ) (c : ℤ) → Ring ls ms c → distinct ls ≡ true → every bounded ls ≡ true → Eases ls (cancel (steps ms) c ls)
 ring-eases ls ms c r d b = record {
-    long = cancel-length (steps ms) c ls;
-    same = λ i h. let e = cancel-at (steps ms) c ls i h in let f = line-same (steps ms) c (getD ls i noLine) in e ∙ f ∙ ap (λ (k : Line). withDebt (getD ls i noLine) (k .debt)) (sym e);
-    less = λ i h. ring-falls ls ms c r d b i h .shrinks }
+  long = cancel-length (steps ms) c ls;
+  same = λ i h. let e = cancel-at (steps ms) c ls i h in let f = line-same (steps ms) c (getD ls i noLine) in e ∙ f ∙ ap (λ (k : Line). withDebt (getD ls i noLine) (k .debt)) (sym e);
+  less = λ i h. ring-falls ls ms c r d b i h .shrinks;
+}
 
 shrinks-same : (d e : ℤ) → e ≡ d → Shrinks d e
 shrinks-same d e h = go (by-ltZ d (pos 0) inl inr)
@@ -397,9 +407,10 @@ eases-same ls ks e = subst (λ (js : List Line). Eases ls js) (sym e) (record { 
 
 pub eases-then : (ls ks js : List Line) → Eases ls ks → Eases ks js → Eases ls js
 eases-then ls ks js p q = record {
-    long = q .long ∙ p .long;
-    same = λ i h. q .same i (omega (arith, p .long)) ∙ ap (λ (k : Line). withDebt k (getD js i noLine .debt)) (p .same i h);
-    less = λ i h. shrinks-then (getD ls i noLine .debt) (getD ks i noLine .debt) (getD js i noLine .debt) (p .less i h) (q .less i (omega (arith, p .long))) }
+  long = q .long ∙ p .long;
+  same = λ i h. q .same i (omega (arith, p .long)) ∙ ap (λ (k : Line). withDebt k (getD js i noLine .debt)) (p .same i h);
+  less = λ i h. shrinks-then (getD ls i noLine .debt) (getD ks i noLine .debt) (getD js i noLine .debt) (p .less i h) (q .less i (omega (arith, p .long)));
+}
 
 -- ends and trusts, net positions, bounds and pairs stay, and no debt grows or turns
 pub record Keeps (ls ls′ : List Line) : Type 0 where

@@ -172,6 +172,7 @@ linking-more c next k i a h l = record { long = length-set next (getD c i 0) (ge
         by : (j ≡ i) ⊎ (j ≡ i → ⊥) → getD (set next (getD c i 0) (getD c (i + 1) 0)) (getD c j 0) 0 ≡ getD c (j + 1) 0
         by (inl e) = subst (λ (n : ℕ). getD (set next (getD c i 0) (getD c (i + 1) 0)) (getD c n 0) 0 ≡ getD c (n + 1) 0) (sym e) (getD-set-same next (getD c i 0) (getD c (i + 1) 0) 0 (omega (arith, l .long, a .members i (omega arith))))
         by (inr d) = getD-set-other next (getD c i 0) (getD c j 0) (getD c (i + 1) 0) 0 (λ e. d (a .apart j i (omega arith) (omega arith) e)) ∙ l .led j (omega (arith, d))
+
     rest′ : (m : ℕ) → m < 64 → (getD (set next (getD c i 0) (getD c (i + 1) 0)) m 0 ≡ 64) ⊎ ((j : ℕ) × (j < i + 1) × (getD c j 0 ≡ m))
     rest′ m g = by (cases-eq m (getD c i 0)) (l .rest m g)
       where
@@ -189,21 +190,27 @@ linking-all c next k a l x y hx hy = both-true (eqb (getD (shut c next k) x 0) y
   where
     same : getD (shut c next k) (getD c k 0) 0 ≡ getD c 0 0
     same = getD-set-same next (getD c k 0) (getD c 0 0) 0 (omega (arith, l .long, a .members k (omega arith)))
+
     other : (m : ℕ) → m ≢ getD c k 0 → getD (shut c next k) m 0 ≡ getD next m 0
     other m d = getD-set-other next (getD c k 0) m (getD c 0 0) 0 d
+
     at : (i : ℕ) → i ≤ k → getD c i 0 ≡ x → after c k i ≡ y → on x y (steps (round c k)) ≡ true
     at i h p q = sym (ap₂ (λ (u v : ℕ). on u v (steps (round c k))) p q) ∙ place-steps c k i (omega (arith, a .long, a .short)) h
+
     onward : eqb (getD (shut c next k) x 0) y ≡ true → on x y (steps (round c k)) ≡ true
     onward e = by (cases-eq x (getD c k 0))
       where
         is : getD (shut c next k) x 0 ≡ y
         is = eqb-true (getD (shut c next k) x 0) y e
+
         in-chain : (getD next x 0 ≡ 64) ⊎ ((j : ℕ) × (j < k) × (getD c j 0 ≡ x)) → x ≢ getD c k 0 → on x y (steps (round c k)) ≡ true
         in-chain (inl r) d = absurd (omega (arith, r, is, other x d))
         in-chain (inr r) d = at (r .0) (omega (arith, r .1)) (r .2) (after-inner c k (r .0) (r .1) ∙ sym (l .led (r .0) (r .1)) ∙ ap (λ (m : ℕ). getD next m 0) (r .2) ∙ sym (other x d) ∙ is)
+
         by : (x ≡ getD c k 0) ⊎ (x ≡ getD c k 0 → ⊥) → on x y (steps (round c k)) ≡ true
         by (inl h) = at k (omega arith) (sym h) (after-last c k ∙ sym same ∙ ap (λ (m : ℕ). getD (shut c next k) m 0) (sym h) ∙ is)
         by (inr d) = in-chain (l .rest x hx) d
+
     back : on x y (steps (round c k)) ≡ true → eqb (getD (shut c next k) x 0) y ≡ true
     back e = by (steps-place c k x y (omega (arith, a .long, a .short)) e)
       where
