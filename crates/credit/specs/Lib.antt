@@ -1,3 +1,4 @@
+pub mod Example
 pub mod Laws
 pub mod Refusals
 pub mod Sentences
