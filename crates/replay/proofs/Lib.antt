@@ -1,3 +1,5 @@
 pub mod Keeps
 pub mod Tally
 pub mod Agree
+pub mod Rounds
+pub mod Worked

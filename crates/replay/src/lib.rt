@@ -1,1 +1,2 @@
 // A list of calls given to two new ledgers, and the law of router independence.
+pub mod sums;
