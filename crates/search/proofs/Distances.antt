@@ -217,18 +217,3 @@ module _ (S : ℕ → ℕ → Type 0) (start goal : ℕ) where
                   | inr l ↦ absurd (goal-at .least j (omega (arith, add-one level)) (chain-walk S start goal other j h))
                 ];
           }
-
-  -- the chain of no steps
-  pub stays : start ≡ goal → goal < 64 → (before c : List ℕ) → Traced before goal 0 c → IsShortest S start goal c 0
-  stays e l before c t =
-      record {
-        chain = record {
-          long = omega (arith, t .long);
-          first = t .last ∙ sym e;
-          last = t .last;
-          members = t .members;
-          linked = λ i lt. absurd (omega arith);
-        };
-        apart = λ i j li lj _. omega arith;
-        least = λ other j h. omega arith;
-      }
