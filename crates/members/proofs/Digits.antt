@@ -1,8 +1,8 @@
 -- The laws of a group's digits.
 use mathlib.Core.Path.{_≡_, refl, sym, ap, _∙_, subst}
 use mathlib.Core.Bool.{Bool, true, false, not, _&&_, _||_}
-use mathlib.Core.Logic.{_⊎_, inl, inr}
-use Prim.Native.Nat.{ℕ, zero, suc, _+_, _-_, _*_, _/_, _%_, _^_, _≤_, _<_}
+use mathlib.Core.Logic.{inl, inr}
+use Prim.Native.Nat.{ℕ, zero, suc, _+_, _-_, _/_, _%_, _^_, _≤_, _<_}
 use native.Mathlib.Nat.{div-one, div-eq-of-lt, pow-suc, mod-lt, zero-div, zero-lt-suc}
 use native.Mathlib.Numerals.{one-add}
 use native.Mathlib.Omega.{arith}
@@ -10,8 +10,8 @@ use lib.Bits.{bitAnd, bitOr}
 use lib.Count.{trailingZeros, under}
 use lib.Dec.{eqb, ltb, eqb·zero-suc, eqb·suc-zero, eqb·suc-suc}
 use lib.Pow.{pow-mono}
-use Rattle.std.proofs.shelf.Bits.{or-shr, and-shr, or-mod, and-mod, shr-shr, shl-shr}
-use Rattle.std.proofs.shelf.Tests.{cases-eq, cases-lt, cases-bool, eq-eqb, ne-eqb, lt-ltb, le-ltb, and-left, and-right, both-ways}
+use Rattle.std.proofs.shelf.Bits.{or-shr, and-shr, or-mod, and-mod, shr-shr}
+use Rattle.std.proofs.shelf.Tests.{cases-eq, cases-lt, eq-eqb, ne-eqb, lt-ltb, le-ltb, and-left, and-right, both-ways}
 use Rattle.members.specs.Groups.{inside}
 
 digit-lt : (g n : ℕ) → g / 2 ^ n % 2 < 2

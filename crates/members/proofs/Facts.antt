@@ -1,9 +1,8 @@
 -- What the equations of groups say of their members.
-use mathlib.Core.Path.{_≡_, refl, sym, ap, _∙_, subst}
+use mathlib.Core.Path.{_≡_, refl, sym, _∙_}
 use mathlib.Core.Bool.{Bool, true, false, not, _&&_, _||_}
 use mathlib.Core.Logic.{_⊎_, inl, inr, ⊎-elim}
-use Prim.Native.Nat.{ℕ, _<_, _^_}
-use native.Mathlib.Omega.{arith}
+use Prim.Native.Nat.{ℕ, _<_}
 use lib.Dec.{eqb, ltb}
 use Rattle.std.proofs.shelf.Tests.{cases-bool, both-ways, and-parts, and-from, or-cases, or-left, or-right, not-true, not-from-false, eq-eqb, ne-eqb, eqb-true, eqb-false, lt-ltb}
 use Rattle.members.specs.Groups.{inside, Has}

@@ -1,8 +1,8 @@
 -- The list of a group's members.
-use mathlib.Core.Path.{_≡_, refl, sym, ap, ap₂, _∙_, subst}
-use mathlib.Core.Bool.{Bool, true, false, not, _&&_, cond}
-use mathlib.Core.List.{List, [], _∷_}
-use mathlib.Core.Logic.{_⊎_, inl, inr}
+use mathlib.Core.Path.{_≡_, refl, sym, ap, _∙_, subst}
+use mathlib.Core.Bool.{true, false, not, _&&_}
+use mathlib.Core.List.{[], _∷_}
+use mathlib.Core.Logic.{inl, inr}
 use Prim.Native.Nat.{ℕ, zero, suc, _+_, _-_, _/_, _%_, _^_, _≤_, _<_}
 use native.Mathlib.Nat.{pow-suc, div-one}
 use native.Mathlib.Numerals.{add-one}
@@ -12,7 +12,7 @@ use lib.Count.{trailingZeros, ones, ones-step}
 use lib.Dec.{eqb}
 use lib.ListN.{length}
 use Rattle.std.proofs.shelf.Bits.{shr-shr}
-use Rattle.std.proofs.shelf.Tests.{cases-eq, cases-bool, cond-true, cond-false, eq-eqb, ne-eqb, eqb-true, eqb-false, not-from-true, and-right, or-left, or-right, both-ways}
+use Rattle.std.proofs.shelf.Tests.{cases-eq, cases-bool, cond-true, cond-false, eq-eqb, ne-eqb, not-from-true, and-right, or-left, or-right, both-ways}
 use Rattle.members.specs.Groups.{inside, Has, membersFrom, membersOf}
 use Rattle.members.specs.Walks.{Took}
 use Rattle.members.proofs.Digits.{and-true, inside-zero, inside-or, inside-power, trailing}

@@ -1,11 +1,9 @@
 -- An answer of the search holds of every other relation that leads between the same members.
-use mathlib.Core.Path.{_≡_}
 use mathlib.Core.List.{List}
-use Prim.Native.Nat.{ℕ, _+_, _<_, _≤_}
+use Prim.Native.Nat.{ℕ, _+_, _<_}
 use native.Mathlib.Omega.{arith}
 use lib.ListN.{getD}
-use Rattle.members.specs.declared.group.Group.{Group}
-use Rattle.search.specs.Chains.{IsChain, IsShortest, Separates}
+use Rattle.search.specs.Chains.{IsChain}
 use Rattle.search.specs.Answers.{Answered}
 use Rattle.search.specs.declared.reach.Reach.{Reach}
 use Rattle.search.specs.declared.reach.Reach.the-variants.{Along, Closed}

@@ -1,15 +1,15 @@
 -- How one level of the search grows: `rest` is what is left of the frontier, and `fresh` what is left of what m reaches.
-use mathlib.Core.Path.{_≡_, refl, sym, ap, _∙_, subst}
+use mathlib.Core.Path.{_≡_, refl, sym, _∙_, subst}
 use mathlib.Core.Bool.{not, _&&_, _||_}
-use mathlib.Core.Logic.{_⊎_, inl, inr, ⊎-elim, _≢_}
+use mathlib.Core.Logic.{_⊎_, inl, inr, ⊎-elim}
 use mathlib.Core.List.{List}
-use Prim.Native.Nat.{ℕ, _+_, _<_, _≤_, _^_}
+use Prim.Native.Nat.{ℕ, _<_}
 use native.Mathlib.Omega.{arith}
 use lib.Dec.{eqb, ltb}
 use lib.ListN.{length, getD, set, length-set}
 use lib.Seq.{getD-set-same, getD-set-other}
 use Rattle.members.specs.Groups.{inside, Has}
-use Rattle.search.specs.Levels.{Members, Grown, Met, Spread}
+use Rattle.search.specs.Levels.{Members, Grown, Met}
 use Rattle.members.specs.Walks.{Took}
 use Rattle.members.proofs.Facts.{has-or-not, has-none, union-left, union-right, union-either, minus-only, minus-all, with-old, with-new, with-only, took-only, took-all}
 

@@ -1,7 +1,5 @@
 ghost use mathlib.Core.Path.{_≡_};
-ghost use mathlib.Core.Bool.{false};
-ghost use Prim.Native.Nat.{ℕ, _<_};
-ghost use Rattle.members.specs.Groups.{inside};
+ghost use Prim.Native.Nat.{_<_};
 ghost use Rattle.search.specs.Levels.{Spread, Members, Traced};
 ghost use Rattle.search.specs.Answers.{Answered, Searched};
 use crate::graph::Graph;

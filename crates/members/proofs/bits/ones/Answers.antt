@@ -1,4 +1,3 @@
-use mathlib.Core.Path.{_∙_}
 use native.Mathlib.Omega.{arith}
 use Rattle.members.proofs.Listed.{ones-listed}
 use Rattle.members.proofs.bits.ones.Needs as need

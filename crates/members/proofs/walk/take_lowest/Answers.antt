@@ -1,6 +1,5 @@
 use mathlib.Core.Path.{ap, sym, _∙_}
 use mathlib.Core.Bool.{not, _&&_}
-use native.Mathlib.Omega.{arith}
 use Rattle.members.specs.Groups.{inside}
 use Rattle.members.proofs.Digits.{single-in}
 use Rattle.members.proofs.Listed.{took, none-listed}

@@ -1,9 +1,7 @@
-use mathlib.Core.Path.{refl, sym, subst}
+use mathlib.Core.Path.{sym, subst}
 use native.Mathlib.Omega.{arith}
-use Prim.Native.Nat.{_<_, _+_, _^_}
 use lib.ListN.{replicate}
 use Rattle.search.specs.Chains.{IsShortest}
-use Rattle.search.specs.Levels.{Traced}
 use Rattle.search.proofs.Distances.{starts, grows, closes, fits, arrives}
 use Rattle.search.proofs.Tracing.{none-yet}
 use Rattle.search.proofs.breadth_first.shortest.Needs as need
