@@ -4,7 +4,7 @@ use mathlib.Core.List.{List, [], _∷_, _++_, append-assoc, append-nil}
 use Prim.Native.Nat.{ℕ, zero, suc, _+_, _≤_, _<_}
 use native.Mathlib.Omega.{arith}
 use lib.ListN.{length, take, set, length-append, length-take}
-use Rattle.std.proofs.shelf.Lists.{take-all, take-append-le, take-more-set, length-take-le, take-take}
+use Rattle.std.proofs.shelf.Lists.{take-all, take-append-le, take-more-set, length-take-le}
 use lib.IntN.{ℤ, pos, negsuc, natAbs}
 use lib.Signed.{ltZ}
 use mathlib.Core.Bool.{true, false}

@@ -1,9 +1,8 @@
 -- One line after another.
 use mathlib.Core.Path.{_≡_, refl, sym, ap, _∙_}
-use mathlib.Core.Logic.{_⊎_, inl, inr, ⊎-elim}
+use mathlib.Core.Logic.{_⊎_, ⊎-elim}
 use mathlib.Core.List.{List, [], _∷_}
 use Prim.Native.Nat.{ℕ, _+_, _-_, _≤_, _<_, suc}
-use native.Mathlib.Numerals.{add-one}
 use native.Mathlib.Omega.{arith}
 use lib.Dec.{eqb}
 use lib.ListN.{length, take, drop, length-drop}
@@ -12,7 +11,6 @@ use Rattle.std.proofs.shelf.Lists.{drop-drop, drop-all}
 use Rattle.std.proofs.shelf.Tests.{cases-bool}
 use Rattle.batch.specs.declared.form.Form.{Form}
 use Rattle.credit.specs.declared.refusal.Refusal.{Refusal}
-use Rattle.batch.specs.declared.reader.Step.{Step}
 use Rattle.batch.specs.Forms.{formOf}
 use Rattle.batch.specs.Pieces.{reach, onto}
 use Rattle.batch.specs.Reads.{linesOf, numbered}

@@ -1,7 +1,7 @@
 -- The numbers of a form have at most 7 digits.
-use mathlib.Core.Path.{_≡_, refl, sym, ap, _∙_}
+use mathlib.Core.Path.{_≡_, refl, sym, _∙_}
 use mathlib.Core.Logic.{⊎-elim}
-use mathlib.Core.Bool.{true, false, cond}
+use mathlib.Core.Bool.{true}
 use mathlib.Core.List.{List, [], _∷_}
 use Prim.Native.Nat.{ℕ, zero, suc, _+_, _-_, _*_, _^_, _≤_, _<_}
 use native.Mathlib.Nat.{pow-suc, pow-le-pow-right}
@@ -15,11 +15,9 @@ use Rattle.std.specs.Text.{asciiDigit}
 use Rattle.std.specs.Options.{okOr}
 use Rattle.std.specs.declared.option.Option.{Option}
 use Rattle.std.specs.declared.option.Option.the-variants.{Some, None}
-use Rattle.std.specs.declared.result.Result.{Result}
 use Rattle.std.specs.declared.result.Result.the-variants.{Ok, Err}
 use Rattle.std.proofs.shelf.Signed.{toZ-pos}
 use Rattle.std.proofs.shelf.Tests.{cases-bool, cond-true, cond-false, and-parts, leb-true}
-use Rattle.credit.specs.declared.refusal.Refusal.{Refusal}
 use Rattle.credit.specs.declared.refusal.Refusal.the-variants.{WrongParts, NotANumber}
 use Rattle.batch.specs.Grammar.{closed}
 use Rattle.batch.specs.Numbers.{readOn, shaped, numeralOf}

@@ -1,5 +1,5 @@
 -- The forms of a batch line.
-use mathlib.Core.Bool.{Bool, true, false, cond}
+use mathlib.Core.Bool.{cond}
 use mathlib.Core.List.{List, [], _∷_}
 use Prim.Native.Nat.{ℕ, _-_}
 use lib.Chars.{codes}
@@ -8,7 +8,6 @@ use lib.ListN.{length, getD, take}
 use Rattle.std.specs.shelf.Text.{sameBytes}
 use Rattle.std.specs.declared.option.Option.{Option}
 use Rattle.std.specs.declared.option.Option.the-variants.{Some, None}
-use Rattle.batch.specs.declared.form.Choice.{Choice}
 use Rattle.batch.specs.declared.form.Choice.the-variants.{Breadth, Scaling, Kept}
 use Rattle.batch.specs.declared.form.Form.{Form}
 use Rattle.batch.specs.declared.form.Form.the-variants.{Tidy, Route, All, Close}

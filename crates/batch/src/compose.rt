@@ -16,9 +16,6 @@ use credit::refusal::Refusal;
 use members::group::Group;
 use members::walk::WalkIterator;
 
-// A buffer of this many bytes holds any line of a sheet.
-pub const MAX_LINE: usize = 256;
-
 // One number after a word.
 fn word_number(d: &mut Draft, word: &[u8], n: usize)
     ensures { λ _. ⌜ Adds (written (now (d .entry))) (now (word .entry) ++ (decimal n ++ close)) (written (now (d .exit))) ⌝ }
@@ -53,6 +50,7 @@ fn remark(d: &mut Draft, refusal: Refusal)
     }
 }
 
+// A refused line: its number, the refusal's number, and what that tells.
 fn refused(d: &mut Draft, line: usize, refusal: Refusal)
     ensures text { λ _. ⌜ Adds (written (now (d .entry))) (codes "(no " ++ (decimal line ++ (codes " " ++ (decimal (numberOf refusal) ++ (told refusal ++ close))))) (written (now (d .exit))) ⌝ }
     ensures fits { λ _. ⌜ length (decimal (numberOf refusal) ++ told refusal) ≤ 224 ⌝ }
@@ -103,6 +101,7 @@ fn line(d: &mut Draft, x: SheetLine)
     }
 }
 
+// The whole text of a sheet line, as a draft of its own.
 fn composed(x: SheetLine) -> Draft
     ensures text { λ r. ⌜ written r ≡ lineText x ⌝ }
     ensures fits { λ _. ⌜ length (lineText x) ≤ 256 ⌝ }

@@ -9,3 +9,5 @@ pub mod reading;
 pub mod samples;
 mod scan;
 pub mod sheet;
+#[cfg(test)]
+mod tests;

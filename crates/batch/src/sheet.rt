@@ -1,6 +1,9 @@
 // A line of the sheet that answers a batch.
 use credit::refusal::Refusal;
 
+// A buffer of this many bytes holds any line of a sheet with its line feed.
+pub const MAX_LINE: usize = 256;
+
 #[derive(Clone, Copy)]
 pub enum SheetLine {
     // the form of a line is carried out

@@ -1,26 +1,29 @@
 // Writing onto a draft.
 ghost use mathlib.Core.Path.{_≡_};
-ghost use mathlib.Core.List.{_∷_, [], _++_};
+ghost use mathlib.Core.List.{_∷_, []};
 ghost use Rattle.std.specs.Written.{decimal, signed};
 ghost use Rattle.batch.specs.Sheets.{answerOf, filledBy};
 ghost use Rattle.batch.specs.Drafts.{written, Adds};
 use crate::draft::Draft;
+use crate::sheet::MAX_LINE;
 use credit::refusal::Refusal;
 
 impl Draft {
+    // An empty draft.
     pub fn new() -> Self
         ensures { λ r. ⌜ written r ≡ [] ⌝ }
     {
         Draft {
-            bytes: [0; 256],
+            bytes: [0; MAX_LINE],
             len: 0,
         }
     }
 
+    // One byte more.
     pub fn byte(&mut self, b: u8)
         ensures { λ _. ⌜ Adds (written (now (self .entry))) (b ∷ []) (written (now (self .exit))) ⌝ }
     {
-        if self.len < 256 {
+        if self.len < MAX_LINE {
             let at = self.len;
             self.bytes[at] = b;
             self.len = at + 1;
@@ -35,6 +38,7 @@ impl Draft {
         }
     }
 
+    // A number in decimal digits.
     pub fn number(&mut self, n: u64)
         ensures { λ _. ⌜ Adds (written (now (self .entry))) (decimal n) (written (now (self .exit))) ⌝ }
     {
@@ -46,6 +50,7 @@ impl Draft {
         }
     }
 
+    // A number with a sign where it is negative.
     pub fn signed(&mut self, z: i32)
         ensures { λ _. ⌜ Adds (written (now (self .entry))) (signed z) (written (now (self .exit))) ⌝ }
     {

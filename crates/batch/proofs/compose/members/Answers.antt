@@ -1,5 +1,4 @@
-use mathlib.Core.Path.{_≡_, refl, sym, ap, _∙_}
-use mathlib.Core.List.{[]}
+use mathlib.Core.Path.{refl, sym, ap, _∙_}
 use Rattle.members.specs.Groups.{membersOf}
 use Rattle.batch.specs.Drafts.{written, joined}
 use Rattle.batch.specs.Sheets.{listed}

@@ -1,12 +1,9 @@
-use mathlib.Core.Path.{_≡_, refl, sym, ap, _∙_}
-use Prim.Native.Nat.{_^_, _*_, _+_, _-_, _<_, _≤_, suc}
+use mathlib.Core.Path.{sym, _∙_}
+use Prim.Native.Nat.{_^_, _≤_}
 use native.Mathlib.Nat.{pow-suc, pow-le-pow-right}
 use native.Mathlib.Numerals.{add-one}
 use native.Mathlib.Omega.{arith}
-use borrow.Author.Needs.{needs}
 use lib.Dec.{lit<}
-use lib.ListN.{getD, drop}
-use mathlib.Core.Bool.{cond}
 use Rattle.std.proofs.shelf.Lists.{at-drop-more, at-drop-all}
 use Rattle.std.proofs.shelf.Tests.{cond-true, cond-false}
 use Rattle.batch.specs.Numbers.{readOn}

@@ -1,5 +1,5 @@
 use mathlib.Core.Path.{_≡_, sym, ap, _∙_}
-use mathlib.Core.List.{[], _∷_}
+use mathlib.Core.List.{_∷_}
 use mathlib.Core.Bool.{true, false}
 use lib.IntN.{pos, natAbs}
 use lib.Signed.{ltZ}

@@ -1,11 +1,9 @@
-use mathlib.Core.Path.{_≡_, refl, sym, ap, _∙_}
+use mathlib.Core.Path.{_≡_, refl, ap}
 use mathlib.Core.Logic.{_⊎_, inl, inr}
-use mathlib.Core.List.{[], _∷_}
 use Prim.Native.Nat.{_-_, _+_, _≤_}
 use native.Mathlib.Omega.{arith}
 use lib.ListN.{length, take, drop}
 use Rattle.std.proofs.shelf.Lists.{take-rest, drop-all}
-use Rattle.batch.specs.Forms.{formOf}
 use Rattle.batch.specs.Reads.{linesOf, numbered}
 use Rattle.batch.proofs.Lines.{stepped}
 use Rattle.batch.proofs.reader.Reader.next_line.Needs as need
