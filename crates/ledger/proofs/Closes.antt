@@ -11,14 +11,16 @@ use Rattle.std.specs.Vec.{listOf}
 use Rattle.std.specs.declared.option.Option.{Option}
 use Rattle.std.specs.declared.option.Option.the-variants.{Some, None}
 use Rattle.credit.specs.declared.line.Line.{Line}
+use Rattle.credit.specs.Plans.{booked}
+use Rattle.credit.proofs.Booked.{length-booked}
 use Rattle.ledger.specs.declared.state.Savepoint.{Savepoint}
 use Rattle.ledger.specs.declared.reservation.Claim.{Claim}
 use Rattle.ledger.specs.Debts.{debts, withDebts}
 use Rattle.ledger.specs.Sound.{strained}
-use Rattle.ledger.specs.States.{OpenGroup, openGroup, State}
-use Rattle.ledger.specs.Checks.{inmostSpoiled}
-use Rattle.ledger.specs.Calls.{begun, closed}
-use Rattle.ledger.proofs.Stacks.{groupsOf, groups-push}
+use Rattle.ledger.specs.States.{OpenGroup, openGroup, State, withLines}
+use Rattle.ledger.specs.Checks.{inmostSpoiled, noneOpen}
+use Rattle.ledger.specs.Calls.{begun, closed, opened, newLine}
+use Rattle.ledger.proofs.Stacks.{groupsOf, groups-push, groups-length}
 use Rattle.ledger.proofs.Restores.{withDebts-take, withDebts-length}
 
 no : {A : Type 0} → _≡_ {A = ℕ} 0 1 → A
@@ -49,3 +51,22 @@ undone-pop ls ks sps rest st sp e k =
 pub unstrained : (st : Option Claim) (ls : List Line) → isSome st ≡ false → (g : ℕ) → strained st g ls ≡ false
 unstrained None ls e g = refl
 unstrained (Some c) ls e g = let z : _≡_ {A = ℕ} 0 1 = cc in no z
+
+-- a booked plan moves debts alone
+pub booked-shown : (ls ks : List Line) (sps : List Savepoint) (st : Option Claim) (xs : List ℤ) → ks ≡ booked ls xs → shown ks sps st ≡ withLines (shown ls sps st) (booked ls xs)
+booked-shown ls ks sps st xs e = ap₂ (λ (v : List Line) (n : ℕ). record { lines = v; groups = groupsOf n sps; standing = st }) e (ap length e ∙ length-booked ls xs)
+
+-- with no group open, none shows after a line is added
+pub open-none : (n : ℕ) (sps : List Savepoint) → noneOpen (groupsOf n sps) ≡ true → sps ≡ []
+open-none n [] h = refl
+open-none n (x ∷ sps) h = go (groupsOf n (x ∷ sps)) (groups-length n (x ∷ sps)) h
+  where
+    go : (gs : List OpenGroup) → length gs ≡ length (x ∷ sps) → noneOpen gs ≡ true → x ∷ sps ≡ []
+    go [] e k = absurd (omega arith)
+    go (g ∷ gs) e k = let z : _≡_ {A = ℕ} 0 1 = cc in no z
+
+pub opened-shown : (ls ks : List Line) (sps : List Savepoint) (st : Option Claim) (x y : ℕ) (t u : ℤ) → ks ≡ ls ++ newLine x y t u ∷ [] → noneOpen (groupsOf (length ls) sps) ≡ true → shown ks sps st ≡ opened (shown ls sps st) x y t u
+opened-shown ls ks sps st x y t u e h =
+    let none = open-none (length ls) sps h in
+    ap₂ (λ (v : List Line) (gs : List OpenGroup). record { lines = v; groups = gs; standing = st }) e
+    (ap (groupsOf (length ks)) none ∙ sym (ap (groupsOf (length ls)) none))

@@ -3,3 +3,5 @@ pub mod Restores
 pub mod Closes
 pub mod Shapes
 pub mod Steps
+pub mod Opens
+pub mod Serves

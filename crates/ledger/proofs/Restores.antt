@@ -139,3 +139,6 @@ restorable-rest ls sps rest more e h = front rest (sym (ap (restorable ls) e) �
     front (x ∷ rest) k =
         let p = and-parts (safe ls x) (restorable ls (rest ++ more)) k in
         and-from (safe ls x) (restorable ls rest) (p .0) (front rest (p .1))
+
+pub distinct-booked : (ls : List Line) (xs : List ℤ) → distinct (booked ls xs) ≡ distinct ls
+distinct-booked ls xs = ap distinct (booked-is ls xs) ∙ distinct-withDebts ls (debts (booked ls xs))

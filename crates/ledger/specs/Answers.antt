@@ -15,6 +15,8 @@ use Rattle.ledger.specs.declared.call.Closing.{Closing}
 use Rattle.ledger.specs.declared.call.Closing as how
 use Rattle.ledger.specs.declared.reservation.Reservation.{Reservation}
 use Rattle.ledger.specs.declared.reservation.Unbooked.{Unbooked}
+use Rattle.ledger.specs.States.{State}
+use Rattle.ledger.specs.Calls.{afterRefusal}
 
 abbrev pub doneOr : Verdict → Answer
 doneOr (Ok u) = Done
@@ -44,3 +46,8 @@ HandedBack v (Err f) = f .reservation ≡ v
 -- the sheet on every way out: all zeros where it has 256 places, else as it was
 abbrev pub cleared : List ℤ → List ℤ
 cleared plan = cond (eqb (length plan) 256) (replicate (length plan) (pos 0)) plan
+
+-- the state once a payment's refusal, if any, has spoiled the inmost group
+abbrev pub noted : Verdict → State → State
+noted (Ok u) s = s
+noted (Err e) s = afterRefusal e s

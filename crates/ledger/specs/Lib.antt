@@ -1,4 +1,5 @@
 pub mod Debts
+pub mod Between
 pub mod Sound
 pub mod States
 pub mod Checks

@@ -7,10 +7,57 @@ ghost use Rattle.std.specs.Vec.{made};
 ghost use Rattle.std.specs.Options.{isSome};
 ghost use Rattle.ledger.specs.States.{stateOf};
 ghost use Rattle.ledger.specs.Checks.{inmostSpoiled, noneOpen, matches, payChecks, bookChecks, openChecks, beginChecks, closeChecks};
+ghost use Rattle.credit.specs.Net.{inTrust};
+ghost use Rattle.credit.specs.Pairs.{joined};
 ghost use Rattle.ledger.specs.Calls.{spoils};
+ghost use Rattle.ledger.specs.Between.{lineChecks};
+use crate::lines::line_between;
 use crate::reservation::Reservation;
 use crate::state::Ledger;
+use credit::line::Line;
 use credit::refusal::Refusal;
+
+// Whether a trust is in range.
+fn in_trust(trust: i32) -> bool
+    ensures { λ r. ⌜ r ≡ inTrust trust ⌝ }
+{
+    0 <= trust && trust <= 1_000_000
+}
+
+// Whether the pair has a line.
+fn is_joined(lines: &[Line], first: u32, second: u32) -> bool
+    ensures { λ r. ⌜ r ≡ joined first second (now (lines .entry)) ⌝ }
+{
+    line_between(lines, first, second).is_some()
+}
+
+// Of the arguments of a new line, and of the lines that there are.
+fn line_checks(
+    lines: &[Line],
+    first: u32,
+    second: u32,
+    trust: i32,
+    back: i32,
+) -> Result<(), Refusal>
+    ensures { λ r. ⌜ r ≡ lineChecks (now (lines .entry)) first second trust back ⌝ }
+{
+    if first >= 64 || second >= 64 {
+        return Err(Refusal::NoSuchMember);
+    }
+    if first == second {
+        return Err(Refusal::SameMember);
+    }
+    if !(in_trust(trust) && in_trust(back)) {
+        return Err(Refusal::OutOfRange);
+    }
+    if is_joined(lines, first, second) {
+        return Err(Refusal::PairHasLine);
+    }
+    if lines.len() >= 256 {
+        return Err(Refusal::TooManyLines);
+    }
+    Ok(())
+}
 
 // Whether a payment refused so spoils the inmost open group.
 pub(crate) fn spoiling(refusal: &Refusal) -> bool
@@ -77,6 +124,25 @@ impl Ledger {
             return Err(Refusal::OutOfRange);
         }
         Ok(())
+    }
+
+    // Of the opening of a line.
+    pub(crate) fn open_checks(
+        &self,
+        first: u32,
+        second: u32,
+        trust: i32,
+        back: i32,
+    ) -> Result<(), Refusal>
+        ensures { λ r. ⌜ r ≡ openChecks (stateOf (now (self .entry))) first second trust back ⌝ }
+    {
+        if self.standing.is_some() {
+            return Err(Refusal::ReservationStands);
+        }
+        if !self.none_open() {
+            return Err(Refusal::SavepointOpen);
+        }
+        line_checks(&self.lines, first, second, trust, back)
     }
 
     pub(crate) fn begin_checks(&self) -> Result<(), Refusal>

@@ -1,8 +1,11 @@
 // The ledger: lines, open groups of payments, the standing reservation, and the calls on them.
 pub mod call;
 mod checks;
+pub mod lines;
+pub mod payments;
 pub mod plan_guard;
 pub mod reservation;
 pub mod savepoints;
+mod serving;
 mod stack;
 pub mod state;
