@@ -16,7 +16,6 @@ use Rattle.credit.proofs.Booked.{length-booked}
 use Rattle.ledger.specs.declared.state.Savepoint.{Savepoint}
 use Rattle.ledger.specs.declared.reservation.Claim.{Claim}
 use Rattle.ledger.specs.Debts.{debts, withDebts}
-use Rattle.ledger.specs.Sound.{strained}
 use Rattle.ledger.specs.States.{OpenGroup, openGroup, State, withLines}
 use Rattle.ledger.specs.Checks.{inmostSpoiled, noneOpen}
 use Rattle.ledger.specs.Calls.{begun, closed, opened, newLine}
@@ -46,11 +45,6 @@ undone-pop ls ks sps rest st sp e k =
     ap₂ (λ (v : List Line) (n : ℕ). record { lines = v; groups = groupsOf n rest; standing = st })
     (k ∙ sym (withDebts-take ls (length ls) (sp .debts) (omega arith))) (ap length k ∙ withDebts-length ls (sp .debts))
     ∙ sym (ap (λ gs. closed (shown ls sps st) gs false) (ap (groupsOf (length ls)) e ∙ groups-push (length ls) rest sp))
-
--- where no reservation stands, no group is strained
-pub unstrained : (st : Option Claim) (ls : List Line) → isSome st ≡ false → (g : ℕ) → strained st g ls ≡ false
-unstrained None ls e g = refl
-unstrained (Some c) ls e g = let z : _≡_ {A = ℕ} 0 1 = cc in no z
 
 -- a booked plan moves debts alone
 pub booked-shown : (ls ks : List Line) (sps : List Savepoint) (st : Option Claim) (xs : List ℤ) → ks ≡ booked ls xs → shown ks sps st ≡ withLines (shown ls sps st) (booked ls xs)

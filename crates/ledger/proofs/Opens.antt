@@ -30,6 +30,7 @@ use Rattle.ledger.specs.Between.{lineBetween}
 use Rattle.ledger.specs.States.{State, OpenGroup}
 use Rattle.ledger.specs.Checks.{noneOpen, openChecks}
 use Rattle.ledger.specs.Calls.{newLine}
+use Rattle.ledger.proofs.Steps.{check-passes}
 
 -- ---- the line between two members
 between-is : (x y : ℕ) (l : Line) (ls : List Line) (b : Bool) → joins x y l ≡ b → lineBetween x y (l ∷ ls) ≡ cond b (Some l) (lineBetween x y ls)
@@ -62,13 +63,18 @@ pub joined-is : (x y : ℕ) (ls : List Line) → isSome (lineBetween x y ls) ≡
 joined-is x y [] = refl
 joined-is x y (l ∷ ls) = joined-step l (lineBetween x y ls) (joins x y l) (joined x y ls) (joined-is x y ls)
 
--- ---- tables of checks
--- a table that is passed: its first test fails, and the rest is passed
-pub check-passes : (t : Bool) (e : Refusal) (rest : Verdict) → check t e rest ≡ passes → (t ≡ false) × (rest ≡ passes)
-check-passes true e rest h = let z : _≡_ {A = ℕ} 0 1 = cc in absurd (omega arith)
-check-passes false e rest h = (refl, h)
+-- it is one of the lines
+between-bounded : (l m : Line) (o : Option Line) (b : Bool) → bounded l ≡ true → (o ≡ Some m → bounded m ≡ true) → cond b (Some l) o ≡ Some m → bounded m ≡ true
+between-bounded l m o true k ih e = let f : l ≡ m = cc in subst (λ v. bounded v ≡ true) f k
+between-bounded l m o false k ih e = ih e
 
--- what the checks of an opening leave
+pub line-bounded : (x y : ℕ) (ls : List Line) (m : Line) → every bounded ls ≡ true → lineBetween x y ls ≡ Some m → bounded m ≡ true
+line-bounded x y [] m b e = let z : _≡_ {A = ℕ} 0 1 = cc in absurd (omega arith)
+line-bounded x y (l ∷ ls) m b e =
+    let p = and-parts (bounded l) (every bounded ls) b in
+    between-bounded l m (lineBetween x y ls) (joins x y l) (p .0) (line-bounded x y ls m (p .1)) e
+
+-- ---- what the checks of an opening leave
 pub record Openable (s : State) (x y : ℕ) (t u : ℤ) : Type 0 where
   pub vacant : isSome (s .standing) ≡ false
   pub none : noneOpen (s .groups) ≡ true

@@ -17,6 +17,7 @@ use Rattle.credit.specs.Pairs.{joins, joined, distinct}
 use Rattle.ledger.specs.declared.state.Savepoint.{Savepoint}
 use Rattle.ledger.specs.Debts.{debts, withDebts}
 use Rattle.ledger.specs.Sound.{restorable}
+use Rattle.ledger.proofs.Shapes.{withDebts-debts}
 use Rattle.ledger.proofs.Stacks.{marked, last-split, last-set}
 
 -- ---- saving
@@ -33,10 +34,6 @@ pub saved-more : (ds : List ℤ) (ls : List Line) (i : ℕ) (d : Line) (v : ℤ)
 saved-more ds ls i d v h k f e = ap (λ w. take (i + 1) (set ds i w)) f ∙ rw add-one (saved-suc ds ls i d h k e)
 
 -- ---- giving back
-pub withDebts-debts : (ls : List Line) → withDebts ls (debts ls) ≡ ls
-withDebts-debts [] = refl
-withDebts-debts (l ∷ ls) = ap (λ t. l ∷ t) (withDebts-debts ls)
-
 -- places behind the last line do not count
 pub withDebts-take : (ls : List Line) (n : ℕ) (ds : List ℤ) → length ls ≤ n → withDebts ls (take n ds) ≡ withDebts ls ds
 withDebts-take [] n ds h = refl

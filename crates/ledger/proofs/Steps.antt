@@ -102,6 +102,13 @@ routed-tells ls p q n entry exit d = go (routerChecks ls p q n entry) refl d
     go (Ok u) h d = let c = payment-passes p q n _ h in (pair p q (c .ends-ok) (c .apart-ok), d)
     go (Err e) h d = refused-passes e (sym (d .0))
 
+pub routed-checked : (ls : List Line) (p q : ℕ) (n : ℤ) (entry exit : List ℤ) → Routes ls p q n entry passes exit → Checked p q n
+routed-checked ls p q n entry exit d = go (routerChecks ls p q n entry) refl d
+  where
+    go : (v : Verdict) → routerChecks ls p q n entry ≡ v → Unless v ls p q n entry passes exit → Checked p q n
+    go (Ok u) h d = payment-passes p q n _ h
+    go (Err e) h d = refused-passes e (sym (d .0))
+
 -- the ledger's lines and a blank sheet pass a router's checks
 pub router-passes : (ls : List Line) (p q : ℕ) (n : ℤ) → every bounded ls ≡ true → length ls ≤ 256 → Checked p q n → routerChecks ls p q n blank ≡ passes
 router-passes ls p q n b few c = payment-skip p q n _ c (check-skip (not (usable ls blank)) BadPlanSheet passes (ap not sheet) refl)

@@ -5,3 +5,4 @@ pub mod States
 pub mod Checks
 pub mod Calls
 pub mod Answers
+pub mod Questions

@@ -17,6 +17,7 @@ ghost use Rattle.ledger.specs.Calls.{blank, claim as claimOf};
 ghost use Rattle.ledger.specs.Answers.{noted};
 use crate::checks::spoiling;
 use crate::reservation::Claim;
+use crate::reservation::Reservation;
 use crate::state::Ledger;
 use credit::booking::book;
 use credit::refusal::Refusal;
@@ -42,9 +43,58 @@ impl Ledger {
         router.route(&self.lines, payer, payee, amount, plan)
     }
 
+    // Routes a payment for which a reservation stands. No router refuses it, since the lines keep its room.
+    pub(crate) fn route_reserved<R: Router>(
+        &self,
+        router: &mut R,
+        reservation: &Reservation,
+        plan: &mut [i32],
+    )
+        requires places { ⌜ length (now plan) ≡ 256 ⌝ }
+        requires stands { ⌜ matches (now self .standing) (now reservation .payer) (now reservation .payee) (now reservation .amount) ≡ true ⌝ }
+        ensures routes { λ _. ⌜ Routes (vec-items (now (self .entry) .lines)) (now (reservation .entry) .payer) (now (reservation .entry) .payee) (now (reservation .entry) .amount) blank passes (now (plan .exit)) ⌝ }
+        ensures fit { λ _. ⌜ fits (vec-items (now (self .entry) .lines)) (now (plan .exit)) ≡ true ⌝ }
+    {
+        let _ = self.ask(
+            router,
+            reservation.payer,
+            reservation.payee,
+            reservation.amount,
+            plan,
+        );
+    }
+
+    // Whether a reservation with these numbers stands.
+    pub(crate) fn holds(&self, reservation: &Reservation) -> bool
+        ensures { λ r. ⌜ r ≡ matches (now (self .entry) .standing) (now (reservation .entry) .payer) (now (reservation .entry) .payee) (now (reservation .entry) .amount) ⌝ }
+    {
+        match self.standing {
+            None => false,
+            Some(claim) => claim.payer == reservation.payer
+                && claim.payee == reservation.payee
+                && claim.amount == reservation.amount,
+        }
+    }
+
+    // Lets a reservation stand that the lines have room for.
+    pub(crate) fn hold(&mut self, claim: Claim)
+        requires proper { ⌜ properClaim (Some claim) ≡ true ⌝ }
+        requires ample { ⌜ ((g : ℕ) → strained (Some claim) g (vec-items (now self .lines)) ≡ false) ⌝ }
+        ensures { λ _. ⌜ stateOf (now (self .exit)) ≡ withStanding (stateOf (now (self .entry))) (Some claim) ⌝ }
+    {
+        self.standing = Some(claim);
+    }
+
+    // Ends the standing reservation.
+    pub(crate) fn vacate(&mut self)
+        ensures state { λ _. ⌜ stateOf (now (self .exit)) ≡ withStanding (stateOf (now (self .entry))) None ⌝ }
+        ensures lines { λ _. ⌜ now (self .exit) .lines ≡ now (self .entry) .lines ⌝ }
+    {
+        self.standing = None;
+    }
+
     // Books a plan that fits.
     pub(crate) fn enter(&mut self, plan: &[i32])
-        requires places { ⌜ length (now plan) ≡ 256 ⌝ }
         requires vacant { ⌜ isSome (now self .standing) ≡ false ⌝ }
         requires fit { ⌜ fits (vec-items (now self .lines)) (now plan) ≡ true ⌝ }
         ensures { λ _. ⌜ stateOf (now (self .exit)) ≡ withLines (stateOf (now (self .entry))) (booked (vec-items (now (self .entry) .lines)) (now (plan .entry))) ⌝ }

@@ -17,7 +17,8 @@ use Rattle.ledger.specs.Sound.{restorable}
 use Rattle.ledger.specs.States.{stateOf}
 use Rattle.ledger.specs.Calls.{newLine}
 use Rattle.ledger.proofs.Opens.{Openable, openable, opened-bounds, opened-pairs}
-use Rattle.ledger.proofs.Closes.{open-none, opened-shown, unstrained}
+use Rattle.ledger.proofs.Steps.{unstrained-none}
+use Rattle.ledger.proofs.Closes.{open-none, opened-shown}
 use Rattle.ledger.proofs.state.Ledger.add_line.Needs as need
 
 -- the lines with the new one behind
@@ -54,7 +55,7 @@ ghost-self c =
                 s .deep,
                 (
                   ap (restorable ks) (open-none (length ls) (vec-items (s .savepoints)) (o .none)),
-                  (s .proper, (unstrained (s .standing) ks (o .vacant), tt)),
+                  (s .proper, (λ g. unstrained-none (s .standing) g ks (o .vacant), tt)),
                 ),
               ),
             ),

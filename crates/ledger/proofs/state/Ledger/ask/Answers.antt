@@ -24,5 +24,5 @@ returns g c =
       routes = d;
       fit = served-fit ls p q n (c .route .result) (c .route .last .plan) d;
       proper = served-proper ls p q n (c .route .result) (c .route .last .plan) d;
-      ample = served-ample ls p q n (c .route .result) (c .route .last .plan) d;
+      ample = served-ample ls p q n (c .route .result) (c .route .last .plan) (c .args .self .now .bounds) d;
     }

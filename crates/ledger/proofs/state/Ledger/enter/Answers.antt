@@ -19,7 +19,8 @@ use Rattle.credit.specs.Plans.{booked, fits}
 use Rattle.credit.proofs.Booked.{length-booked, bounded-booked}
 use Rattle.ledger.specs.Sound.{restorable}
 use Rattle.ledger.proofs.Restores.{restorable-alike, withDebts-booked, distinct-booked}
-use Rattle.ledger.proofs.Closes.{unstrained, booked-shown}
+use Rattle.ledger.proofs.Steps.{unstrained-none}
+use Rattle.ledger.proofs.Closes.{booked-shown}
 use Rattle.ledger.proofs.state.Ledger.enter.Needs as need
 
 -- the lines of a vector that was written over
@@ -47,7 +48,7 @@ ghost-self c =
                 s .deep,
                 (
                   ap (λ t. restorable t (vec-items (s .savepoints))) e ∙ restorable-alike (booked ls xs) ls _ (withDebts-booked ls xs) ∙ s .kept,
-                  (s .proper, (unstrained (s .standing) _ (c .pre .vacant), tt)),
+                  (s .proper, (λ g. unstrained-none (s .standing) g _ (c .pre .vacant), tt)),
                 ),
               ),
             ),

@@ -11,8 +11,9 @@ use Rattle.credit.specs.Sums.{every}
 use Rattle.credit.specs.Net.{bounded}
 use Rattle.ledger.specs.Debts.{debts, withDebts}
 use Rattle.ledger.specs.Sound.{restorable}
+use Rattle.ledger.proofs.Shapes.{withDebts-debts}
 use Rattle.ledger.proofs.Stacks.{groups-length}
-use Rattle.ledger.proofs.Restores.{withDebts-take, withDebts-debts, restorable-push}
+use Rattle.ledger.proofs.Restores.{withDebts-take, restorable-push}
 use Rattle.ledger.proofs.Closes.{begun-push}
 use Rattle.ledger.proofs.state.Ledger.save.Needs as need
 

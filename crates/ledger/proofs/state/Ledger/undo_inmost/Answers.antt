@@ -17,7 +17,8 @@ use Rattle.credit.specs.Pairs.{distinct}
 use Rattle.ledger.specs.Debts.{withDebts}
 use Rattle.ledger.specs.Sound.{restorable}
 use Rattle.ledger.proofs.Restores.{restorable-pop, restorable-alike, withDebts-length, withDebts-twice, distinct-withDebts}
-use Rattle.ledger.proofs.Closes.{undone-pop, unstrained}
+use Rattle.ledger.proofs.Steps.{unstrained-none}
+use Rattle.ledger.proofs.Closes.{undone-pop}
 use Rattle.ledger.proofs.state.Ledger.undo_inmost.Needs as need
 
 -- the lines of a vector that was written over
@@ -48,7 +49,7 @@ ghost-self c =
                 omega (arith, c .pop .ensures .capacity, s .deep),
                 (
                   ap (λ t. restorable t (vec-items (c .pop .last .self))) e ∙ restorable-alike (withDebts ls ds) ls _ (withDebts-twice ls ds) ∙ p .0,
-                  (s .proper, (unstrained (s .standing) _ (c .pre), tt)),
+                  (s .proper, (λ g. unstrained-none (s .standing) g _ (c .pre), tt)),
                 ),
               ),
             ),
