@@ -95,7 +95,7 @@ impl Ledger {
     pub fn lines(&self) -> &[Line]
         ensures { λ r. ⌜ now r ≡ stateOf (now (self .entry)) .lines ⌝ }
     {
-        &self.lines
+        self.lines.as_slice()
     }
 
     // The number of open groups of payments.

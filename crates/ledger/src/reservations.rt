@@ -75,8 +75,7 @@ impl Ledger {
             payee: _,
             amount: _,
         } = reservation;
-        self.vacate();
-        self.enter(guard.plan);
+        self.settle(guard.plan);
         Ok(())
     }
 

@@ -102,6 +102,15 @@ impl Ledger {
         book(&mut self.lines, plan);
     }
 
+    // Books a plan for the standing reservation, which then no longer stands.
+    pub(crate) fn settle(&mut self, plan: &[i32])
+        requires { ⌜ fits (vec-items (now self .lines)) (now plan) ≡ true ⌝ }
+        ensures { λ _. ⌜ stateOf (now (self .exit)) ≡ withStanding (withLines (stateOf (now (self .entry))) (booked (vec-items (now (self .entry) .lines)) (now (plan .entry)))) None ⌝ }
+    {
+        self.vacate();
+        self.enter(plan);
+    }
+
     // Spoils the inmost group where a payment was refused so.
     pub(crate) fn note(&mut self, paid: &Result<(), Refusal>)
         ensures { λ _. ⌜ stateOf (now (self .exit)) ≡ noted (now (paid .entry)) (stateOf (now (self .entry))) ⌝ }

@@ -1,8 +1,9 @@
 // The open groups of payments: saving debts, giving them back, and marking the inmost group.
 ghost use mathlib.Core.Path.{_≡_};
 ghost use mathlib.Core.Bool.{true, false};
-ghost use Prim.Native.Nat.{_<_, _≤_};
+ghost use Prim.Native.Nat.{_+_, _<_, _≤_};
 ghost use lib.ListN.{length, take};
+ghost use Rattle.std.specs.Of.Vec.{vec-len};
 ghost use Rattle.std.specs.Options.{isSome};
 ghost use Rattle.credit.specs.Plans.{withDebt};
 ghost use Rattle.ledger.specs.Debts.{debts, withDebts};
@@ -68,13 +69,21 @@ impl Ledger {
         }
     }
 
+    // Marks the last savepoint, which is the inmost group, as spoiled.
+    fn mark(&mut self, last: usize)
+        requires { ⌜ vec-len (now self .savepoints) ≡ last + 1 ⌝ }
+        ensures { λ _. ⌜ stateOf (now (self .exit)) ≡ withGroups (stateOf (now (self .entry))) (spoilInmost (stateOf (now (self .entry)) .groups)) ⌝ }
+    {
+        self.savepoints[last].spoiled = true;
+    }
+
     // Marks the inmost group, if any, as spoiled.
     pub(crate) fn spoil_inmost(&mut self)
         ensures { λ _. ⌜ stateOf (now (self .exit)) ≡ withGroups (stateOf (now (self .entry))) (spoilInmost (stateOf (now (self .entry)) .groups)) ⌝ }
     {
         let depth = self.savepoints.len();
         if depth > 0 {
-            self.savepoints[depth - 1].spoiled = true;
+            self.mark(depth - 1);
         }
     }
 }
