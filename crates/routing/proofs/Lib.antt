@@ -1,2 +1,4 @@
 pub mod Fitting
 pub mod Passing
+pub mod Shares
+pub mod Directly

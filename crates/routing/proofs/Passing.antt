@@ -10,7 +10,7 @@ use lib.Signed.{leZ, _≤ℤ_}
 use lib.ListN.{length}
 use lib.Dec.{eqb, ltb, leb}
 use Rattle.std.proofs.shelf.Ways.{tells}
-use Rattle.std.proofs.shelf.Tests.{and-parts}
+use Rattle.std.proofs.shelf.Tests.{and-parts, not-false, ltb-true, leb-true, eqb-false, ne-eqb, le-leb}
 use Rattle.std.specs.declared.result.Result.the-variants.{Ok, Err}
 use Rattle.credit.specs.declared.line.Line.{Line}
 use Rattle.credit.specs.declared.refusal.Refusal.{Refusal}
@@ -38,18 +38,6 @@ check-passes : (t : Bool) (e : Refusal) (rest : Verdict) → check t e rest ≡ 
 check-passes true e rest h = let z : _≡_ {A = ℕ} 0 1 = cc in absurd (omega arith)
 check-passes false e rest h = (refl, h)
 
-not-false : (b : Bool) → not b ≡ false → b ≡ true
-not-false b h = grind (arith, tells)
-
-below : (a b : ℕ) → ltb a b ≡ true → a < b
-below a b h = grind (arith, tells)
-
-at-most : (a b : ℕ) → leb a b ≡ true → a ≤ b
-at-most a b h = grind (arith, tells)
-
-unequal : (a b : ℕ) → eqb a b ≡ false → a ≢ b
-unequal a b h = grind (arith, tells)
-
 pub passed-facts : (ls : List Line) (p q : ℕ) (n : ℤ) (xs : List ℤ) → routerChecks ls p q n xs ≡ passes → Passed ls p q n xs
 passed-facts ls p q n xs h =
     let a = check-passes (notMembers p q) NoSuchMember _ h in
@@ -62,36 +50,30 @@ passed-facts ls p q n xs h =
     let v = and-parts (every bounded ls) _ (u .1) in
     let w = and-parts (leb (length ls) (length xs)) (fits ls xs) (v .1) in
     record {
-      payer = below p 64 (m .0);
-      payee = below q 64 (m .1);
-      apart = unequal p q (b .0);
+      payer = ltb-true p 64 (m .0);
+      payee = ltb-true q 64 (m .1);
+      apart = eqb-false p q (b .0);
       low = leZ-order (pos 1) n (r .0);
       high = leZ-order n (pos 1000000) (r .1);
-      few = at-most (length ls) 256 (u .0);
+      few = leb-true (length ls) 256 (u .0);
       sound = v .0;
-      long = at-most (length ls) (length xs) (w .0);
+      long = leb-true (length ls) (length xs) (w .0);
       fit = w .1;
     }
 
 members-from : (p q : ℕ) → p < 64 → q < 64 → notMembers p q ≡ false
 members-from p q h k = grind (arith, tells)
 
-different : (p q : ℕ) → p ≢ q → eqb p q ≡ false
-different p q f = grind (arith, tells)
-
 amount-from : (n : ℤ) → leZ (pos 1) n ≡ true → leZ n (pos 1000000) ≡ true → notAmount n ≡ false
 amount-from n h k = rw (h, k)
-
-short-test : (a b : ℕ) → a ≤ b → leb a b ≡ true
-short-test a b h = grind (arith, tells)
 
 four : (a b c d : Bool) → a ≡ true → b ≡ true → c ≡ true → d ≡ true → not (a && (b && (c && d))) ≡ false
 four a b c d h k l m = rw (h, k, l, m)
 
 pub passed-from : (ls : List Line) (p q : ℕ) (n : ℤ) (xs : List ℤ) → Passed ls p q n xs → routerChecks ls p q n xs ≡ passes
 passed-from ls p q n xs f =
-    let u = four (leb (length ls) 256) (every bounded ls) (leb (length ls) (length xs)) (fits ls xs) (short-test _ _ (f .few)) (f .sound) (short-test _ _ (f .long)) (f .fit) in
+    let u = four (leb (length ls) 256) (every bounded ls) (leb (length ls) (length xs)) (fits ls xs) (le-leb _ _ (f .few)) (f .sound) (le-leb _ _ (f .long)) (f .fit) in
     ap (λ t. check t NoSuchMember (check (eqb p q) SameMember (check (notAmount n) OutOfRange (check (not (usable ls xs)) BadPlanSheet passes)))) (members-from p q (f .payer) (f .payee))
-    ∙ ap (λ t. check t SameMember (check (notAmount n) OutOfRange (check (not (usable ls xs)) BadPlanSheet passes))) (different p q (f .apart))
+    ∙ ap (λ t. check t SameMember (check (notAmount n) OutOfRange (check (not (usable ls xs)) BadPlanSheet passes))) (ne-eqb p q (f .apart))
     ∙ ap (λ t. check t OutOfRange (check (not (usable ls xs)) BadPlanSheet passes)) (amount-from n (leZ-test (pos 1) n (f .low)) (leZ-test n (pos 1000000) (f .high)))
     ∙ ap (λ t. check t BadPlanSheet passes) u

@@ -1,3 +1,4 @@
 // Routers: who finds how a payment runs along the lines.
 pub mod checks;
+pub mod direct;
 pub mod router;
