@@ -9,9 +9,11 @@ use lib.IntN.{ℤ, pos, negsuc, _+ℤ_, _-ℤ_, negℤ, natAbs}
 use lib.Signed.{_≤ℤ_, _<ℤ_}
 use lib.ListN.{length, getD, take}
 use lib.Dec.{eqb}
+use borrow.Author.Count.{below-more}
 use Rattle.std.proofs.shelf.Signed.{ints}
 use Rattle.std.proofs.shelf.Tests.{and-parts, or-cases, or-left, or-right, eqb-true, cases-eq}
 use Rattle.members.specs.Groups.{inside}
+use Rattle.search.specs.Chains.{IsShortest, Separates}
 use Rattle.credit.specs.declared.line.Line.{Line}
 use Rattle.credit.specs.Sums.{only, every}
 use Rattle.credit.specs.Net.{noLine, bounded}
@@ -21,7 +23,7 @@ use Rattle.credit.proofs.Sums.{every-at}
 use Rattle.credit.proofs.Bounds.{Bounds, bounded-facts}
 use Rattle.rings.specs.Rings.{lineOwes, owes, walk, steps, on, Ring, cancel, Cancels, Tidied}
 use Rattle.rings.specs.Steps.{DebtStep, Shrinks, Eases}
-use Rattle.rings.specs.Rounds.{round, Apart, Rounds, Under, Met, Ringed, Clear, Reached}
+use Rattle.rings.specs.Rounds.{round, Apart, Rounds, RoundOver, Under, Met, Ringed, Clear, Reached}
 use Rattle.rings.proofs.Rings.{Falls, ring-falls, owed-at, Keeps, cancels-keep}
 use Rattle.rings.proofs.Stepping.{owes-cases, owes-onward, owes-back, step-from-owes, step-members, owes-at, round-length, round-once, rounds-ringed, under-step, met-step, closing-on, on-self}
 
@@ -261,3 +263,29 @@ rounds-from ls i x y c k d b h o a first last linked = record {
         let s : DebtStep ls y x = subst₂ (λ (u v : ℕ). DebtStep ls u v) first (ap (λ (n : ℕ). getD c n 0) (sym q) ∙ last) (linked 0 (omega arith)) in
         absurd (omega (arith, ints, one-way (owes-cases x y l o), owes-at y x ls d b s, s .2))
     long (inr e) (inr q) = omega (arith, e, q)
+
+-- ---- what a search from the creditor of a line to its debtor shows
+pub over-along : (ls : List Line) (i x y : ℕ) (c : List ℕ) (k : ℕ) → distinct ls ≡ true → every bounded ls ≡ true → i < length ls → pos 0 <ℤ lineOwes x y (getD ls i noLine)
+    → length c ≡ 64 → IsShortest (DebtStep ls) y x c k → RoundOver ls i c k
+over-along ls i x y c k d b h o n s =
+    let t = s .chain in
+    ( rounds-from ls i x y c k d b h o (record { long = n; short = omega (arith, n, t .long); members = t .members; apart = s .apart }) (t .first) (t .last) (t .linked)
+    , subst₂ (λ (u v : ℕ). pos 0 <ℤ lineOwes u v (getD ls i noLine)) (sym (t .last)) (sym (t .first)) o )
+
+pub over-closed : (ls : List Line) (i x y g : ℕ) → every bounded ls ≡ true → pos 0 <ℤ lineOwes x y (getD ls i noLine) → Separates (DebtStep ls) y x g → Clear ls i
+over-closed ls i x y g b o s = clear-separated ls i x y g b o (s .inside) (s .outside) (s .closed)
+
+-- one cancelling over line i
+pub over-nearer : (ls ks : List Line) (i : ℕ) (c : List ℕ) (k : ℕ) (v : ℤ) → distinct ls ≡ true → every bounded ls ≡ true → i < length ls → RoundOver ls i c k
+    → Ring ls (round c k) v → ks ≡ cancel (steps (round c k)) v ls → natAbs (getD ks i noLine .debt) < natAbs (getD ls i noLine .debt)
+over-nearer ls ks i c k v d b h r q e =
+    let a = r .0 .different in
+    subst (λ (js : List Line). natAbs (getD js i noLine .debt) < natAbs (getD ls i noLine .debt)) (sym e)
+    (ring-nearer ls (round c k) v i (getD c k 0) (getD c 0 0) q d b h (r .1) (closing-on c k (omega (arith, a .long, a .short))))
+
+-- the lines from 0 to i are cleared
+pub cleared-more : (ls ks js : List Line) (i : ℕ) → distinct ls ≡ true → every bounded ls ≡ true → Reached ls ks → i < length ks → ((j : ℕ) → j < i → Clear ks j) → Reached ks js → Clear js i → (j : ℕ) → j < i + 1 → Clear js j
+cleared-more ls ks js i d b r h f q g =
+    let k = reached-keeps ls ks d b r in
+    let m = reached-keeps ks js (k .pairs) (k .bounds) q in
+    below-more (λ j. Clear js j) i (λ j l. clear-eased ks js j (m .eases) (omega (arith, h, l)) (f j l)) g

@@ -1,3 +1,5 @@
 pub mod Rings
 pub mod Stepping
 pub mod Clearing
+pub mod Lowering
+pub mod Graphs

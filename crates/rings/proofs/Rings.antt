@@ -356,7 +356,7 @@ split (l ∷ ls) b =
     (bounded-facts l (h .0) .order, split ls (h .1))
 
 -- ---- all rings
-cancel-length : (ss : List (ℕ × ℕ)) (c : ℤ) (ls : List Line) → length (cancel ss c ls) ≡ length ls
+pub cancel-length : (ss : List (ℕ × ℕ)) (c : ℤ) (ls : List Line) → length (cancel ss c ls) ≡ length ls
 cancel-length ss c [] = ap length (cancel-nil ss c)
 cancel-length ss c (l ∷ ls) = ap length (cancel-cons ss c l ls) ∙ ap suc (cancel-length ss c ls)
 

@@ -10,7 +10,8 @@ use lib.ListN.{length, getD, take}
 use lib.Dec.{eqb}
 use Rattle.credit.specs.declared.line.Line.{Line}
 use Rattle.credit.specs.Net.{noLine}
-use Rattle.rings.specs.Rings.{lineOwes, steps, on, Ring, cancel, Cancels}
+use Rattle.rings.specs.declared.ring.Ring.{Ring}
+use Rattle.rings.specs.Rings.{lineOwes, steps, on, Cancels}
 use Rattle.rings.specs.Steps.{DebtStep}
 
 -- the members of a chain of k steps
@@ -31,9 +32,17 @@ pub record Rounds (ls : List Line) (c : List ℕ) (k : ℕ) : Type 0 where
   pub linked : (i : ℕ) → i < k → DebtStep ls (getD c i 0) (getD c (i + 1) 0)
   pub closing : DebtStep ls (getD c k 0) (getD c 0 0)
 
+-- such members, the last of whom owes the first on line i
+abbrev pub RoundOver : List Line → ℕ → List ℕ → ℕ → Type 0
+RoundOver ls i c k = Rounds ls c k × (pos 0 <ℤ lineOwes (getD c k 0) (getD c 0 0) (getD ls i noLine))
+
 -- a table of whom each member owes on the ring; who is not on it owes nobody
 abbrev pub Links : List ℕ → List ℕ → Type 0
 Links next ms = (x y : ℕ) → x < 64 → y < 64 → eqb (getD next x 0) y ≡ on x y (steps ms)
+
+-- who stands on the ring
+abbrev pub party : Ring → List ℕ
+party r = round (r .chain .members) (r .chain .steps)
 
 -- v is at most what is owed on the line along the steps of a ring
 abbrev pub Under : List ℕ → ℤ → Line → Type 0

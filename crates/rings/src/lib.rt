@@ -1,1 +1,4 @@
-// Rings of debt, and their cancelling.
+// Rings of debt: the graph of debts, and the cancelling of rings.
+mod graph;
+mod ring;
+pub mod tidy;
