@@ -268,9 +268,10 @@ rounds-from ls i x y c k d b h o a first last linked = record {
 pub over-along : (ls : List Line) (i x y : ℕ) (c : List ℕ) (k : ℕ) → distinct ls ≡ true → every bounded ls ≡ true → i < length ls → pos 0 <ℤ lineOwes x y (getD ls i noLine)
     → length c ≡ 64 → IsShortest (DebtStep ls) y x c k → RoundOver ls i c k
 over-along ls i x y c k d b h o n s =
-    let t = s .chain in
-    ( rounds-from ls i x y c k d b h o (record { long = n; short = omega (arith, n, t .long); members = t .members; apart = s .apart }) (t .first) (t .last) (t .linked)
-    , subst₂ (λ (u v : ℕ). pos 0 <ℤ lineOwes u v (getD ls i noLine)) (sym (t .last)) (sym (t .first)) o )
+    let t = s .chain in (
+      rounds-from ls i x y c k d b h o (record { long = n; short = omega (arith, n, t .long); members = t .members; apart = s .apart }) (t .first) (t .last) (t .linked),
+      subst₂ (λ (u v : ℕ). pos 0 <ℤ lineOwes u v (getD ls i noLine)) (sym (t .last)) (sym (t .first)) o,
+    )
 
 pub over-closed : (ls : List Line) (i x y g : ℕ) → every bounded ls ≡ true → pos 0 <ℤ lineOwes x y (getD ls i noLine) → Separates (DebtStep ls) y x g → Clear ls i
 over-closed ls i x y g b o s = clear-separated ls i x y g b o (s .inside) (s .outside) (s .closed)

@@ -36,6 +36,7 @@ gathered-more f g ls i h old new only = record { sound = sound; complete = compl
         by : (f m n ≡ true) ⊎ (pos 0 <ℤ lineOwes m n (getD ls i noLine)) → (j : ℕ) × (j < i + 1) × (pos 0 <ℤ lineOwes m n (getD ls j noLine))
         by (inl k) = let s = h .sound m n k in (s .0, omega (arith, s .1), s .2)
         by (inr k) = (i, omega arith, k)
+
     complete : (m n j : ℕ) → m < 64 → n < 64 → j < i + 1 → pos 0 <ℤ lineOwes m n (getD ls j noLine) → g m n ≡ true
     complete m n j hm hn l o = by (cases-eq j i)
       where

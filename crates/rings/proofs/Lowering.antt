@@ -31,9 +31,10 @@ least-none ms ls v e = record { most = omega (arith, ints, e); under = λ j h. a
 
 pub least-more : (ms : List ℕ) (ls : List Line) (i : ℕ) (v u w : ℤ) → u ≡ v → Least ms ls i v → w ≤ℤ u → Under ms w (getD ls i noLine) → (w ≡ u) ⊎ Met ms w (getD ls i noLine) → Least ms ls (i + 1) w
 least-more ms ls i v u w e l h here one = record {
-    most = omega (arith, ints, e, h, l .most);
-    under = below-more (λ j. Under ms w (getD ls j noLine)) i (λ j g. let o = l .under j g in (λ f. omega (arith, ints, e, h, o .0 f), λ f. omega (arith, ints, e, h, o .1 f))) here;
-    met = go one (l .met) }
+  most = omega (arith, ints, e, h, l .most);
+  under = below-more (λ j. Under ms w (getD ls j noLine)) i (λ j g. let o = l .under j g in (λ f. omega (arith, ints, e, h, o .0 f), λ f. omega (arith, ints, e, h, o .1 f))) here;
+  met = go one (l .met);
+}
   where
     go : (w ≡ u) ⊎ Met ms w (getD ls i noLine) → (v ≡ pos 1000000) ⊎ ((j : ℕ) × (j < i) × Met ms v (getD ls j noLine)) → (w ≡ pos 1000000) ⊎ ((j : ℕ) × (j < i + 1) × Met ms w (getD ls j noLine))
     go (inl f) (inl k) = inl (f ∙ e ∙ k)
@@ -53,11 +54,12 @@ pub lowering-more : (ms : List ℕ) (v u : ℤ) (ls ks : List Line) (i : ℕ) (k
     → k ≡ withDebt (getD ks i noLine) ((getD ks i noLine .debt -ℤ only (on (getD ks i noLine .b) (getD ks i noLine .a) (steps ms)) u) +ℤ only (on (getD ks i noLine .a) (getD ks i noLine .b) (steps ms)) u)
     → Lowering ms v ls (set ks i k) (i + 1)
 lowering-more ms v u ls ks i k o e h l f = record {
-    long = length-set ks i k ∙ l .long;
-    done = below-more (λ j. getD (set ks i k) j noLine ≡ cancelLine (steps ms) v (getD ls j noLine)) i
-        (λ j g. getD-set-other ks i j k noLine (λ z. omega (arith, z, g)) ∙ l .done j g)
-        (getD-set-same ks i k noLine h ∙ f ∙ sym (line-falls ms u (getD ks i noLine) o) ∙ ap (cancelLine (steps ms) u) (l .left i (omega arith)) ∙ ap (λ (z : ℤ). cancelLine (steps ms) z (getD ls i noLine)) e);
-    left = λ j g. getD-set-other ks i j k noLine (λ z. omega (arith, z, g)) ∙ l .left j (omega (arith, g)) }
+  long = length-set ks i k ∙ l .long;
+  done = below-more (λ j. getD (set ks i k) j noLine ≡ cancelLine (steps ms) v (getD ls j noLine)) i
+      (λ j g. getD-set-other ks i j k noLine (λ z. omega (arith, z, g)) ∙ l .done j g)
+      (getD-set-same ks i k noLine h ∙ f ∙ sym (line-falls ms u (getD ks i noLine) o) ∙ ap (cancelLine (steps ms) u) (l .left i (omega arith)) ∙ ap (λ (z : ℤ). cancelLine (steps ms) z (getD ls i noLine)) e);
+  left = λ j g. getD-set-other ks i j k noLine (λ z. omega (arith, z, g)) ∙ l .left j (omega (arith, g));
+}
 
 pub lowering-all : (ms : List ℕ) (v : ℤ) (ls ks : List Line) (i : ℕ) → length ks ≤ i → Lowering ms v ls ks i → ks ≡ cancel (steps ms) v ls
 lowering-all ms v ls ks i h l =

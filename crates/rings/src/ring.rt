@@ -116,7 +116,11 @@ fn lesser(on_ring: bool, owed: i32, amount: i32) -> i32
     ensures under { λ r. ⌜ («on_ring» ≡ true → r ≤ℤ owed) ⌝ }
     ensures met { λ r. ⌜ (r ≡ amount) ⊎ ((«on_ring» ≡ true) × (r ≡ owed)) ⌝ }
 {
-    if on_ring && owed < amount { owed } else { amount }
+    if on_ring && owed < amount {
+        owed
+    } else {
+        amount
+    }
 }
 
 // The amount where the test holds, else 0.

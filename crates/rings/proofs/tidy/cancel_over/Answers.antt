@@ -12,4 +12,5 @@ returns-in-Some c =
     record {
       reached = reached-one (c .args .lines .now) (c .cancel .last .lines) (round (k .members) (k .steps)) (c .cancel .result) (e .ring) (e .lowered);
       fallen = λ t. over-nearer (c .args .lines .now) (c .cancel .last .lines) (c .args .i) (k .members) (k .steps) (c .cancel .result) (c .pre .pairs) (c .pre .bounds) (c .pre .place) (c .in-Some .ensures tt) (e .ring) (e .lowered);
-      clear = λ t. let z : _≡_ {A = ℕ} 0 1 = cc in absurd (omega arith) }
+      clear = λ t. let z : _≡_ {A = ℕ} 0 1 = cc in absurd (omega arith);
+    }

@@ -21,4 +21,5 @@ returns c =
     let e = c .cancel-over .ensures in
     record {
       reached = reached-then (c .args .lines .now) (c .loop .lines) (c .cancel-over .last .lines) (c .loop .inv) (e .reached);
-      clear = e .clear (c .loop-test .left) }
+      clear = e .clear (c .loop-test .left);
+    }

@@ -13,9 +13,10 @@ clear-requires c κs =
 pub loop-i-again : need.loop-i-again
 loop-i-again c =
     let v = c .loop-i .inv in
-    let e = c .clear .ensures in
-    ( reached-then (c .args .lines .now) (c .loop-i .lines) (c .clear .last .lines) (v .0) (e .reached)
-    , cleared-more (c .args .lines .now) (c .loop-i .lines) (c .clear .last .lines) (c .loop-i .i) (c .pre .pairs) (c .pre .bounds) (v .0) (omega arith) (v .1) (e .reached) (e .clear) )
+    let e = c .clear .ensures in (
+      reached-then (c .args .lines .now) (c .loop-i .lines) (c .clear .last .lines) (v .0) (e .reached),
+      cleared-more (c .args .lines .now) (c .loop-i .lines) (c .clear .last .lines) (c .loop-i .i) (c .pre .pairs) (c .pre .bounds) (v .0) (omega arith) (v .1) (e .reached) (e .clear),
+    )
 
 pub returns : need.returns
 returns c =
@@ -26,4 +27,5 @@ returns c =
       nets = k .nets;
       debts = k .eases;
       bounds = k .bounds;
-      pairs = k .pairs }
+      pairs = k .pairs;
+    }

@@ -34,4 +34,5 @@ returns c =
     record {
       ring = ring-least (c .args .lines .now) (s .members) (s .steps) (c .pre .pairs) (c .pre .bounds) (c .pre .rounds) _ (λ j h. l .under j (omega arith))
           (elim (l .met) [ inl e ↦ inl e | inr m ↦ inr (m .0, omega (arith, m .1), m .2) ]);
-      most = l .most }
+      most = l .most;
+    }

@@ -24,5 +24,7 @@ returns c =
       most = omega (arith, ints);
       under = (λ e. omega (arith, ints, p .under (c .leads .ensures ∙ e)), λ e. omega (arith, ints, q .under (c .leads-2 .ensures ∙ e)));
       met = elim (q .met) [
-          inl e ↦ elim (p .met) [ inl d ↦ inl (omega (arith, ints)) | inr d ↦ inr (inl (sym (c .leads .ensures) ∙ d .0, omega (arith, ints, d .1))) ]
-        | inr e ↦ inr (inr (sym (c .leads-2 .ensures) ∙ e .0, omega (arith, ints, e .1))) ] }
+        | inl e ↦ elim (p .met) [ inl d ↦ inl (omega (arith, ints)) | inr d ↦ inr (inl (sym (c .leads .ensures) ∙ d .0, omega (arith, ints, d .1))) ]
+        | inr e ↦ inr (inr (sym (c .leads-2 .ensures) ∙ e .0, omega (arith, ints, e .1)))
+      ];
+    }

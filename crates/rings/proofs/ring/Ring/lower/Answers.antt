@@ -22,7 +22,8 @@ lowered-requires c κs =
       table = c .pre .table;
       bounds = ap bounded (l .left (c .loop-i .i) (omega arith)) ∙ every-at bounded (c .args .lines .now) (c .loop-i .i) noLine (c .pre .bounds) (omega (arith, l .long));
       some = omega (arith, ints);
-      most = omega (arith, ints) }
+      most = omega (arith, ints);
+    }
 
 pub loop-i-again : need.loop-i-again
 loop-i-again c =

@@ -15,4 +15,5 @@ returns c =
     let e : c .loop-i .i ≡ c .args .chain .steps = omega arith in
     record {
       same = refl;
-      links = linking-all (c .args .chain .members) (c .loop-i .creditors) (c .args .chain .steps) (c .pre) (subst (λ (i : ℕ). Linking (c .args .chain .members) (c .loop-i .creditors) i) e (c .loop-i .inv)) }
+      links = linking-all (c .args .chain .members) (c .loop-i .creditors) (c .args .chain .steps) (c .pre) (subst (λ (i : ℕ). Linking (c .args .chain .members) (c .loop-i .creditors) i) e (c .loop-i .inv));
+    }
