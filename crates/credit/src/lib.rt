@@ -6,3 +6,5 @@ pub mod net;
 mod plan;
 pub mod refusal;
 pub mod room;
+#[cfg(test)]
+mod tests;

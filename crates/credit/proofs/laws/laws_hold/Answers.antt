@@ -14,11 +14,12 @@ use Rattle.credit.proofs.laws.laws_hold.Needs as need
 
 laws : Laws
 laws = record {
-    roomIsTrustAndNets = λ ls b g. room-is g ls (ends-bounded ls b);
-    flowMovesPayerAndPayee = flow-net;
-    flowOutTakesRoom = λ ls b p q n from to hp hq f g ip iq. flow-out g ls p q n from to (ends-bounded ls b) hp hq f ip iq;
-    routedFitsEveryGroup = λ ls b p q n from to hp hq f t g ip iq. weak-duality ls p q n from to (ends-bounded ls b) hp hq f t g ip iq;
-    bookingKeepsBounds = bounded-booked }
+  roomIsTrustAndNets = λ ls b g. room-is g ls (ends-bounded ls b);
+  flowMovesPayerAndPayee = flow-net;
+  flowOutTakesRoom = λ ls b p q n from to hp hq f g ip iq. flow-out g ls p q n from to (ends-bounded ls b) hp hq f ip iq;
+  routedFitsEveryGroup = λ ls b p q n from to hp hq f t g ip iq. weak-duality ls p q n from to (ends-bounded ls b) hp hq f t g ip iq;
+  bookingKeepsBounds = bounded-booked;
+}
 
 through : Flow network 1 3 (pos 30) [] plan
 through m = omega (arith, ints)
@@ -26,8 +27,18 @@ through m = omega (arith, ints)
 example : Example
 unfolding inside
 example = record {
-    bounds = refl; pairs = refl; alone = refl; together = refl; flow = through; fit = refl;
-    payer = refl; between = refl; payee = refl; spent = refl; left = refl }
+  bounds = refl;
+  pairs = refl;
+  alone = refl;
+  together = refl;
+  flow = through;
+  fit = refl;
+  payer = refl;
+  between = refl;
+  payee = refl;
+  spent = refl;
+  left = refl;
+}
 
 pub returns : need.returns
 returns c = record { laws = laws; example = example }
