@@ -25,7 +25,8 @@ use Rattle.credit.specs.Plans.{booked, moved, roomy, roomFrom, sentFrom, Flow, 
 use Rattle.credit.specs.Pairs.{joins}
 use Rattle.credit.proofs.Sends.{flow-sent, flow-add, fits-set, roomy-at, roomy-sent, room-sent}
 use Rattle.routing.specs.Meaning.{routerChecks, Routed, Tight, Finds, Unless, Routes}
-use Rattle.routing.specs.Direct.{joiningFrom, shareOn, shareAt, directShare, Wider, Answered, Handed, Upward, Below, Beside, Shared}
+use Rattle.routing.specs.Direct.{joiningFrom, shareOn, shareAt, directShare, Upward, Below, Beside, Shared}
+use Rattle.routing.specs.Handing.{Answered, Handed}
 use Rattle.routing.specs.declared.direct.Share.{Share}
 use Rattle.routing.proofs.Passing.{Passed, passed-facts, passed-from}
 use Rattle.routing.proofs.Shares.{first-at, room-from-low, Least, least}

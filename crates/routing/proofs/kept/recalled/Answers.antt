@@ -47,7 +47,8 @@ loop-group-again c =
     let n = toZ w32 (ofZ w32 (c .args .amount)) in
     let gs = c .args .groups .now in
     let i = c .loop-group .group-index in
-    ap (λ o. orElse o (recalled ls p q n xs (drop (i + 1) gs))) (c .in-rest .ensures tt)
+    let e : None ≡ refusalBy ls p q n xs (getD gs i none) = c .in-rest .ensures tt in
+    ap (λ o. orElse o (recalled ls p q n xs (drop (i + 1) gs))) e
     ∙ sym (at-drop-more (recalled ls p q n xs) gs i none (c .loop-group-test .taken))
     ∙ c .loop-group .inv
 

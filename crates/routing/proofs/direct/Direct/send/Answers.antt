@@ -9,7 +9,8 @@ use mir.Syntax.{w32}
 use Rattle.std.proofs.shelf.Signed.{ints, toZ-ofZ}
 use Rattle.credit.specs.Refusals.{passes}
 use Rattle.routing.specs.Meaning.{routerChecks}
-use Rattle.routing.specs.Direct.{directShare, Handed}
+use Rattle.routing.specs.Direct.{directShare}
+use Rattle.routing.specs.Handing.{Handed}
 use Rattle.routing.proofs.Passing.{passed-facts, passed-from}
 use Rattle.routing.proofs.Directly.{known, shared-rest, shared-whole, shared-finds}
 use Rattle.routing.proofs.direct.Direct.send.Needs as need
