@@ -11,3 +11,5 @@ pub mod savepoints;
 mod serving;
 mod stack;
 pub mod state;
+#[cfg(test)]
+mod tests;
