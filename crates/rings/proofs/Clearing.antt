@@ -1,13 +1,13 @@
 -- The ring that a chain of debts closes to, and lines that no ring leads over.
-use Prim.Native.Nat.{ℕ, _+_, _<_, _≤_, zero, suc}
+use Prim.Native.Nat.{ℕ, _+_, _<_, _≤_}
 use native.Mathlib.Omega.{arith}
 use mathlib.Core.Path.{_≡_, refl, sym, _∙_, ap, ap₂, subst, subst₂}
 use mathlib.Core.List.{List, [], _∷_, _++_}
 use mathlib.Core.Bool.{Bool, true, false, not, _&&_, _||_}
 use mathlib.Core.Logic.{_⊎_, inl, inr, _≢_}
-use lib.IntN.{ℤ, pos, negsuc, _+ℤ_, _-ℤ_, negℤ, natAbs}
+use lib.IntN.{ℤ, pos, negsuc, _-ℤ_, negℤ, natAbs}
 use lib.Signed.{_≤ℤ_, _<ℤ_}
-use lib.ListN.{length, getD, take}
+use lib.ListN.{length, getD}
 use lib.Dec.{eqb}
 use borrow.Author.Count.{below-more}
 use Rattle.std.proofs.shelf.Signed.{ints}
@@ -24,7 +24,7 @@ use Rattle.credit.proofs.Bounds.{Bounds, bounded-facts}
 use Rattle.rings.specs.Rings.{lineOwes, owes, walk, steps, on, Ring, cancel, Cancels, Tidied}
 use Rattle.rings.specs.Steps.{DebtStep, Shrinks, Eases}
 use Rattle.rings.specs.Rounds.{round, Apart, Rounds, RoundOver, Under, Met, Ringed, Clear, Reached}
-use Rattle.rings.proofs.Rings.{Falls, ring-falls, owed-at, Keeps, cancels-keep}
+use Rattle.rings.proofs.Rings.{ring-falls, owed-at, Keeps, cancels-keep}
 use Rattle.rings.proofs.Stepping.{owes-cases, owes-onward, owes-back, step-from-owes, step-members, owes-at, round-length, round-once, rounds-ringed, under-step, met-step, closing-on, on-self}
 
 no : {X : Type 0} → _≡_ {A = ℕ} 0 1 → X

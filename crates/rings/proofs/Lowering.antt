@@ -4,13 +4,12 @@ use native.Mathlib.Omega.{arith}
 use mathlib.Core.Path.{_≡_, refl, sym, _∙_, ap, subst}
 use mathlib.Core.List.{List}
 use mathlib.Core.Bool.{Bool, true, false}
-use mathlib.Core.Logic.{_⊎_, inl, inr, _≢_}
-use lib.IntN.{ℤ, pos, _+ℤ_, _-ℤ_, negℤ}
+use mathlib.Core.Logic.{_⊎_, inl, inr}
+use lib.IntN.{ℤ, pos, _+ℤ_, _-ℤ_}
 use lib.Signed.{_≤ℤ_}
 use lib.ListN.{length, getD, set}
 use borrow.Author.Count.{below-more}
 use Rattle.std.proofs.shelf.Signed.{ints}
-use Rattle.std.proofs.shelf.Tests.{cases-eq}
 use Rattle.std.proofs.shelf.Lists.{length-set, getD-set-same, getD-set-other, ext-getD}
 use Rattle.credit.specs.declared.line.Line.{Line}
 use Rattle.credit.specs.Sums.{only}

@@ -1,16 +1,16 @@
 -- Cancelling a ring keeps every net position and the bounds.
-use Prim.Native.Nat.{ℕ, _+_, _<_, _≤_, zero, suc}
+use Prim.Native.Nat.{ℕ, _<_, zero, suc}
 use native.Mathlib.Omega.{arith}
 use mathlib.Core.Path.{_≡_, refl, sym, _∙_, ap, ap₂, subst, subst₂}
-use mathlib.Core.List.{List, [], _∷_, _++_}
-use mathlib.Core.Bool.{Bool, true, false, cond, not, _&&_, _||_}
+use mathlib.Core.List.{List, [], _∷_}
+use mathlib.Core.Bool.{Bool, true, false, not, _&&_, _||_}
 use mathlib.Core.Logic.{_⊎_, inl, inr, _≢_}
-use lib.IntN.{ℤ, pos, negsuc, _+ℤ_, _-ℤ_, negℤ}
+use lib.IntN.{ℤ, pos, _+ℤ_, _-ℤ_, negℤ}
 use lib.Signed.{_≤ℤ_, _<ℤ_, leZ}
 use lib.ListN.{length, getD}
 use lib.Dec.{eqb}
 use Rattle.std.proofs.shelf.Signed.{ints, by-ltZ}
-use Rattle.std.proofs.shelf.Tests.{and-parts, and-from, or-parts, or-cases, or-left, or-right, not-false, not-true, eqb-true, eqb-false, eq-eqb, ne-eqb}
+use Rattle.std.proofs.shelf.Tests.{and-parts, and-from, or-parts, or-cases, or-left, or-right, not-true, eqb-true, eqb-false, eq-eqb, ne-eqb}
 use Rattle.credit.specs.declared.line.Line.{Line}
 use Rattle.credit.specs.Sums.{sumZ, only, every}
 use Rattle.credit.specs.Net.{noLine, share, net, framed, affordable, bounded}
@@ -18,7 +18,7 @@ use Rattle.credit.specs.Plans.{withDebt}
 use Rattle.credit.specs.Pairs.{joins, joined, distinct}
 use Rattle.credit.proofs.Bounds.{Bounds, bounded-facts}
 use Rattle.rings.specs.Rings.{lineOwes, owes, walk, steps, has, once, on, Ring, lowerLine, lower, cancel, Cancels, Tidied}
-use Rattle.rings.specs.Steps.{DebtStep, Shrinks, Eases}
+use Rattle.rings.specs.Steps.{Shrinks, Eases}
 
 -- the lines without their debts
 abbrev pub shape : List Line → List Line

@@ -4,27 +4,25 @@ use native.Mathlib.Omega.{arith}
 use native.Mathlib.Numerals.{add-one}
 use mathlib.Core.Path.{_≡_, refl, sym, _∙_, ap, ap₂, subst, subst₂}
 use mathlib.Core.List.{List, [], _∷_, _++_}
-use mathlib.Core.Bool.{Bool, true, false, cond, not, _&&_, _||_}
+use mathlib.Core.Bool.{Bool, true, false, cond, not, _&&_}
 use mathlib.Core.Logic.{_⊎_, inl, inr, _≢_}
-use lib.IntN.{ℤ, pos, negsuc, _+ℤ_, _-ℤ_, negℤ, natAbs}
+use lib.IntN.{ℤ, pos, _-ℤ_, negℤ}
 use lib.Signed.{_≤ℤ_, _<ℤ_}
 use lib.ListN.{length, getD, take, set, replicate}
 use lib.Dec.{eqb}
 use Rattle.std.proofs.shelf.Signed.{ints, by-ltZ}
-use Rattle.std.proofs.shelf.Tests.{and-parts, and-from, or-parts, or-cases, or-left, or-right, not-from-false, eqb-true, eq-eqb, ne-eqb, cases-bool, cases-eq, both-ways}
+use Rattle.std.proofs.shelf.Tests.{and-parts, and-from, or-cases, or-left, or-right, eqb-true, eq-eqb, ne-eqb, cases-eq}
 use Rattle.std.proofs.shelf.Lists.{length-set, length-take-le, getD-take, getD-append-left, getD-at, getD-set-same, getD-set-other, getD-replicate}
-use Rattle.members.specs.Groups.{inside}
 use Rattle.credit.specs.declared.line.Line.{Line}
-use Rattle.credit.specs.Sums.{sumZ, only, every}
+use Rattle.credit.specs.Sums.{only, every}
 use Rattle.credit.specs.Net.{noLine, bounded}
-use Rattle.credit.specs.Plans.{withDebt}
 use Rattle.credit.specs.Pairs.{distinct}
 use Rattle.credit.proofs.Sums.{every-at}
 use Rattle.credit.proofs.Bounds.{Bounds, bounded-facts}
-use Rattle.rings.specs.Rings.{lineOwes, owes, walk, steps, has, once, on, Ring, cancel, Cancels, Tidied}
-use Rattle.rings.specs.Steps.{DebtStep, Shrinks, Eases}
-use Rattle.rings.specs.Rounds.{round, Apart, Rounds, Links, Under, Met, Ringed, Clear, Reached}
-use Rattle.rings.proofs.Rings.{Falls, ring-falls, owed-at, Keeps, cancels-keep, eqb-sym}
+use Rattle.rings.specs.Rings.{lineOwes, owes, walk, steps, has, once, on}
+use Rattle.rings.specs.Steps.{DebtStep}
+use Rattle.rings.specs.Rounds.{round, Apart, Rounds, Links, Under, Met, Ringed}
+use Rattle.rings.proofs.Rings.{owed-at}
 
 no : {X : Type 0} → _≡_ {A = ℕ} 0 1 → X
 no e = absurd (omega arith)

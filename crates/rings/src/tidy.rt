@@ -19,8 +19,8 @@ use search::reach::Chain;
 use search::reach::Reach;
 
 // Cancels rings of debt until none is left. No net position moves, and no debt grows or turns.
-// Each search either cancels a ring, which sets some debt to 0 for good, or leaves a line for good: at most two
-// searches for each line.
+// Each search either cancels a ring, which sets some debt to 0 for good, or leaves a line for good: there are at most
+// twice as many searches as lines.
 pub fn tidy(lines: &mut [Line])
     requires bounds { ⌜ every bounded (now lines) ≡ true ⌝ }
     requires pairs { ⌜ distinct (now lines) ≡ true ⌝ }

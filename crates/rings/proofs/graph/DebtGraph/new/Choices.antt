@@ -1,5 +1,4 @@
 use Rattle.search.specs.Rowed.{reaches}
-use Rattle.rings.specs.Rings.{lineOwes}
 use Rattle.rings.proofs.Graphs.{Gathered}
 use Rattle.rings.proofs.graph.DebtGraph.new.Given as given
 

@@ -1,11 +1,11 @@
-use mathlib.Core.Path.{_≡_, refl, sym, subst}
+use mathlib.Core.Path.{refl, sym, subst}
 use Prim.Native.Nat.{_+_}
 use native.Mathlib.Omega.{arith}
 use borrow.Author.Needs.{needs}
 use lib.IntN.{ℤ}
 use mir.Val.{SFits}
 use mir.Syntax.{w32}
-use Rattle.std.proofs.shelf.Signed.{ints, toZ-ofZ}
+use Rattle.std.proofs.shelf.Signed.{toZ-ofZ}
 use mathlib.Core.Logic.{inl, inr}
 use Rattle.credit.specs.Net.{noLine, bounded}
 use Rattle.credit.proofs.Sums.{every-at}
