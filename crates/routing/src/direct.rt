@@ -229,3 +229,38 @@ pub impl<R: Router> Router for Direct<R> as DirectRouter {
         self.send(lines, payer, payee, amount, plan)
     }
 }
+
+#[cfg(test)]
+mod tests {
+    use super::*;
+    use std::test::*;
+
+    const FAR: Line = Line {
+        a: 1,
+        b: 2,
+        trust_a: 0,
+        trust_b: 30,
+        debt: 0,
+    };
+
+    const NEAR: Line = Line {
+        a: 1,
+        b: 3,
+        trust_a: 0,
+        trust_b: 1,
+        debt: 0,
+    };
+
+    // The direct line carries 1 of 40; where the rest is refused, the room is larger by 1 and the plan is as it was.
+    #[test]
+    fn taken_back() -> Result<(), Fail> {
+        let mut plan = [0, 0];
+        let share = direct_share(&[FAR, NEAR], 1, 3, 40, &plan).ok_or("no line joins them")?;
+        check(share.place == 1 && share.part == 1)?;
+        share.put(&mut plan);
+        check_eq(plan, [0, 1])?;
+        share.take_back(&mut plan);
+        check_eq(plan, [0, 0])?;
+        check_eq(with_part(30, share.part), 31)
+    }
+}

@@ -195,3 +195,51 @@ pub impl<R: Router> Router for Kept<R> as KeptRouter {
         self.answer(lines, payer, payee, amount, plan)
     }
 }
+
+#[cfg(test)]
+mod tests {
+    use super::*;
+    use credit::refusal::RefusalDebug;
+    use credit::refusal::RefusalPartialEq;
+    use members::group::GroupDebug;
+    use members::group::GroupPartialEq;
+    use std::test::*;
+
+    const NARROW: Line = Line {
+        a: 1,
+        b: 2,
+        trust_a: 0,
+        trust_b: 10,
+        debt: 0,
+    };
+
+    // A remembered group refuses while it is too tight, and no more once its room has grown.
+    #[test]
+    fn counted_anew() -> Result<(), Fail> {
+        let mut memory = Memory::new();
+        let group = Group { bits: 2 };
+        memory.note(group);
+        check_eq(
+            memory.recalled(&[NARROW], 1, 2, 11, &[0]),
+            Some(Refusal::WantOfRoom { group, room: 10 }),
+        )?;
+        let grown = Line {
+            trust_b: 11,
+            ..NARROW
+        };
+        check_eq(memory.recalled(&[grown], 1, 2, 11, &[0]), None)
+    }
+
+    // The oldest of eight is forgotten when a ninth is named.
+    #[test]
+    fn the_last_eight() -> Result<(), Fail> {
+        let mut memory = Memory::new();
+        memory.note(Group { bits: 2 });
+        for _ in 0..7 {
+            memory.note(Group { bits: 4 });
+        }
+        check(memory.recalled(&[NARROW], 1, 2, 11, &[0]).is_some())?;
+        memory.note(Group { bits: 4 });
+        check_eq(memory.recalled(&[NARROW], 1, 2, 11, &[0]), None)
+    }
+}
