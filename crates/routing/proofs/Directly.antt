@@ -1,8 +1,8 @@
 -- A share on the direct line and what the router below finds for the rest are together what a router means.
 use mathlib.Core.Path.{_≡_, refl, sym, ap, _∙_, subst}
-use mathlib.Core.Bool.{Bool, true, false, cond}
+use mathlib.Core.Bool.{Bool, true, false}
 use mathlib.Core.List.{List}
-use Prim.Native.Nat.{ℕ, _<_, _≤_}
+use Prim.Native.Nat.{ℕ, _<_}
 use native.Mathlib.Omega.{arith}
 use lib.IntN.{ℤ, pos, _+ℤ_, _-ℤ_}
 use lib.Signed.{ltZ, _≤ℤ_, _<ℤ_}
@@ -12,23 +12,19 @@ use Rattle.std.proofs.shelf.Signed.{ints}
 use Rattle.std.specs.declared.option.Option.{Option}
 use Rattle.std.specs.declared.option.Option.the-variants.{Some, None}
 use Rattle.std.specs.declared.result.Result.the-variants.{Ok, Err}
-use Rattle.members.specs.declared.group.Group.{Group}
-use Rattle.members.specs.Groups.{inside}
 use Rattle.credit.specs.declared.line.Line.{Line}
-use Rattle.credit.specs.declared.refusal.Refusal.{Refusal}
-use Rattle.credit.specs.declared.refusal.Refusal.the-variants.{WantOfRoom}
 use Rattle.credit.specs.Refusals.{Verdict, passes}
 use Rattle.credit.specs.Sums.{only}
 use Rattle.credit.specs.Net.{noLine}
 use Rattle.credit.specs.Rooms.{room}
-use Rattle.credit.specs.Plans.{booked, moved, roomy, roomFrom, sentFrom, Flow, fits}
+use Rattle.credit.specs.Plans.{moved, roomy, roomFrom, Flow, fits}
 use Rattle.credit.specs.Pairs.{joins}
 use Rattle.credit.proofs.Sends.{flow-sent, flow-add, fits-set, roomy-at, roomy-sent, room-sent}
-use Rattle.routing.specs.Meaning.{routerChecks, Routed, Tight, Finds, Unless, Routes}
+use Rattle.routing.specs.Meaning.{Routed, Tight, Finds, Unless, Routes}
 use Rattle.routing.specs.Direct.{joiningFrom, shareOn, shareAt, directShare, Upward, Below, Beside, Shared}
 use Rattle.routing.specs.Handing.{Answered, Handed}
 use Rattle.routing.specs.declared.direct.Share.{Share}
-use Rattle.routing.proofs.Passing.{Passed, passed-facts, passed-from}
+use Rattle.routing.proofs.Passing.{Passed, passed-from}
 use Rattle.routing.proofs.Shares.{first-at, room-from-low, Least, least}
 
 -- past the checks a router's answer is what it finds

@@ -1,8 +1,8 @@
 -- Groups that are remembered, and what is known where one of them refuses.
-use mathlib.Core.Path.{_≡_, refl, sym, ap, _∙_, subst}
+use mathlib.Core.Path.{_≡_, refl, sym, ap, _∙_}
 use mathlib.Core.Bool.{Bool, true, false, not, cond, _&&_}
 use mathlib.Core.List.{List, [], _∷_, _++_}
-use Prim.Native.Nat.{ℕ, suc, _+_, _-_, _<_, _≤_, _^_}
+use Prim.Native.Nat.{ℕ, _+_, _-_, _<_, _^_}
 use native.Mathlib.Omega.{arith}
 use native.Mathlib.Numerals.{add-one}
 use lib.IntN.{ℤ}
@@ -11,7 +11,6 @@ use lib.ListN.{length, take, drop, set, length-drop, length-take}
 use Rattle.std.proofs.shelf.Lists.{take-take, take-all}
 use Rattle.std.proofs.shelf.Signed.{ints}
 use Rattle.std.proofs.shelf.Tests.{and-parts, not-true}
-use Rattle.std.specs.declared.option.Option.{Option}
 use Rattle.std.specs.declared.option.Option.the-variants.{Some, None}
 use Rattle.std.specs.declared.result.Result.the-variants.{Err}
 use Rattle.members.specs.declared.group.Group.{Group}
@@ -21,7 +20,7 @@ use Rattle.credit.specs.declared.refusal.Refusal.{Refusal}
 use Rattle.credit.specs.declared.refusal.Refusal.the-variants.{WantOfRoom}
 use Rattle.credit.specs.Rooms.{room}
 use Rattle.credit.specs.Plans.{booked}
-use Rattle.routing.specs.Meaning.{Tight, Finds}
+use Rattle.routing.specs.Meaning.{Finds}
 use Rattle.routing.specs.Kept.{tight, refusalBy, noted}
 
 front : (zs ws : List Group) (g : Group) → length zs ≡ 1 → set (zs ++ ws) 0 g ≡ g ∷ ws

@@ -1,6 +1,6 @@
 -- What is known once a router's checks are passed.
-use mathlib.Core.Path.{_≡_, refl, sym, ap, _∙_}
-use mathlib.Core.Bool.{Bool, true, false, cond, not, _&&_}
+use mathlib.Core.Path.{_≡_, refl, ap, _∙_}
+use mathlib.Core.Bool.{Bool, true, false, not, _&&_}
 use mathlib.Core.Logic.{_≢_}
 use mathlib.Core.List.{List}
 use Prim.Native.Nat.{ℕ, _<_, _≤_}
@@ -11,7 +11,6 @@ use lib.ListN.{length}
 use lib.Dec.{eqb, ltb, leb}
 use Rattle.std.proofs.shelf.Ways.{tells}
 use Rattle.std.proofs.shelf.Tests.{and-parts, not-false, ltb-true, leb-true, eqb-false, ne-eqb, le-leb}
-use Rattle.std.specs.declared.result.Result.the-variants.{Ok, Err}
 use Rattle.credit.specs.declared.line.Line.{Line}
 use Rattle.credit.specs.declared.refusal.Refusal.{Refusal}
 use Rattle.credit.specs.declared.refusal.Refusal.the-variants.{NoSuchMember, SameMember, OutOfRange, BadPlanSheet}

@@ -1,14 +1,13 @@
 use borrow.Author.Needs.{needs}
 use mathlib.Core.Path.{_≡_, sym, ap, _∙_}
-use mathlib.Core.Bool.{Bool, true, false, _&&_}
+use mathlib.Core.Bool.{_&&_}
 use native.Mathlib.Omega.{arith}
 use Prim.Native.Nat.{_<_, _+_}
 use lib.IntN.{pos}
 use lib.ListN.{length, getD}
-use mir.Val.{SFits, toZ, ofZ}
+use mir.Val.{SFits}
 use mir.Syntax.{w32}
 use Rattle.std.proofs.shelf.Signed.{toZ-ofZ}
-use Rattle.std.proofs.shelf.Ways.{tells}
 use Rattle.credit.specs.Net.{bounded, noLine}
 use Rattle.credit.specs.Plans.{moved, roomy}
 use Rattle.routing.proofs.Fitting.{fitFrom, fit-more, fit-all}

@@ -1,10 +1,10 @@
 use borrow.Author.Needs.{needs}
-use mathlib.Core.Path.{_≡_, sym, ap, _∙_}
+use mathlib.Core.Path.{sym, ap, _∙_}
 use native.Mathlib.Omega.{arith}
-use Prim.Native.Nat.{_<_, _≤_, _+_}
+use Prim.Native.Nat.{_<_, _≤_}
 use lib.IntN.{pos}
 use lib.ListN.{length, getD}
-use mir.Val.{SFits, toZ, ofZ}
+use mir.Val.{SFits}
 use mir.Syntax.{w32}
 use Rattle.std.proofs.shelf.Signed.{ints, toZ-ofZ}
 use Rattle.credit.specs.Net.{bounded, noLine}

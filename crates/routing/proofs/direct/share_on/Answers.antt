@@ -1,11 +1,9 @@
-use borrow.Author.Needs.{needs}
 use mathlib.Core.Path.{_≡_, sym, ap, _∙_, subst}
 use native.Mathlib.Omega.{arith}
 use lib.IntN.{pos}
 use lib.Signed.{_≤ℤ_}
 use mir.Val.{toZ, ofZ}
 use mir.Syntax.{w32, w64}
-use Rattle.std.specs.Numbers.{minZ}
 use Rattle.std.proofs.shelf.Signed.{ints, toZ-ofZ}
 use Rattle.credit.specs.Plans.{moved, roomFrom}
 use Rattle.routing.proofs.Shares.{room-from-low, planned-range, least}

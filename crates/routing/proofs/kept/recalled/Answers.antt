@@ -2,13 +2,12 @@ use borrow.Author.Needs.{needs}
 use mathlib.Core.Path.{_≡_, sym, ap, _∙_, subst}
 use native.Mathlib.Omega.{arith}
 use Prim.Native.Nat.{_+_, _<_, _^_}
-use lib.IntN.{ℤ}
-use lib.ListN.{length, getD, drop}
+use lib.ListN.{getD, drop}
 use mir.Val.{toZ, ofZ}
 use mir.Syntax.{w32}
 use Rattle.std.proofs.shelf.Lists.{at-drop-more, at-drop-all}
 use Rattle.std.proofs.shelf.Signed.{toZ-ofZ}
-use Rattle.std.specs.declared.option.Option.the-variants.{Some, None}
+use Rattle.std.specs.declared.option.Option.the-variants.{None}
 use Rattle.std.specs.declared.result.Result.the-variants.{Err}
 use Rattle.members.specs.declared.group.Group.{Group}
 use Rattle.routing.specs.Meaning.{Finds}

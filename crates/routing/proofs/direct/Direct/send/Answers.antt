@@ -1,7 +1,6 @@
-use mathlib.Core.Path.{_≡_, sym, ap, _∙_, subst}
+use mathlib.Core.Path.{_≡_, ap, _∙_, subst}
 use native.Mathlib.Omega.{arith}
-use Prim.Native.Nat.{_<_}
-use lib.IntN.{ℤ, pos, _+ℤ_, _-ℤ_}
+use lib.IntN.{ℤ, _-ℤ_}
 use lib.Signed.{_<ℤ_, _≤ℤ_}
 use lib.ListN.{length, set, length-set}
 use mir.Val.{toZ, ofZ}
