@@ -46,11 +46,14 @@ undone-pop ls ks sps rest st sp e k =
     (k ∙ sym (withDebts-take ls (length ls) (sp .debts) (omega arith))) (ap length k ∙ withDebts-length ls (sp .debts))
     ∙ sym (ap (λ gs. closed (shown ls sps st) gs false) (ap (groupsOf (length ls)) e ∙ groups-push (length ls) rest sp))
 
+-- lines written over by others of the same number
+pub shown-over : (ls ks ws : List Line) (sps : List Savepoint) (st : Option Claim) → ks ≡ ws → length ws ≡ length ls → shown ks sps st ≡ withLines (shown ls sps st) ws
+shown-over ls ks ws sps st e h = ap₂ (λ (v : List Line) (n : ℕ). record { lines = v; groups = groupsOf n sps; standing = st }) e (ap length e ∙ h)
+
 -- a booked plan moves debts alone
 pub booked-shown : (ls ks : List Line) (sps : List Savepoint) (st : Option Claim) (xs : List ℤ) → ks ≡ booked ls xs → shown ks sps st ≡ withLines (shown ls sps st) (booked ls xs)
-booked-shown ls ks sps st xs e = ap₂ (λ (v : List Line) (n : ℕ). record { lines = v; groups = groupsOf n sps; standing = st }) e (ap length e ∙ length-booked ls xs)
+booked-shown ls ks sps st xs e = shown-over ls ks (booked ls xs) sps st e (length-booked ls xs)
 
--- with no group open, none shows after a line is added
 pub open-none : (n : ℕ) (sps : List Savepoint) → noneOpen (groupsOf n sps) ≡ true → sps ≡ []
 open-none n [] h = refl
 open-none n (x ∷ sps) h = go (groupsOf n (x ∷ sps)) (groups-length n (x ∷ sps)) h

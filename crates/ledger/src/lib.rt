@@ -13,3 +13,4 @@ mod stack;
 pub mod state;
 #[cfg(test)]
 mod tests;
+pub mod tidying;
