@@ -17,3 +17,6 @@ popped xs d ne h =
 
 pub height : (xs : List ℕ) (d : ℕ) → d ≤ length xs → length (reverse (take d xs)) ≡ d
 height xs d h = length-reverse (take d xs) ∙ length-take d xs ∙ omega arith
+
+pub height-le : (xs : List ℕ) (d : ℕ) → length (reverse (take d xs)) ≤ d
+height-le xs d = omega (arith, length-reverse (take d xs), length-take d xs)

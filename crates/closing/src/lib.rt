@@ -1,3 +1,8 @@
 // A batch closed on a ledger: its door, its forms carried out, its end and its statement.
+pub mod batches;
+pub mod carry;
+pub mod close;
 pub mod marks;
+pub mod outcome;
+pub mod picking;
 pub mod statement;
