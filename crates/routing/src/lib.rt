@@ -1,6 +1,9 @@
 // Routers: who finds how a payment runs along the lines.
+mod chain;
 pub mod checks;
 pub mod direct;
 pub mod kept;
 pub mod memory;
+mod fill;
+mod graph;
 pub mod router;
