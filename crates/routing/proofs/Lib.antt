@@ -7,3 +7,4 @@ pub mod Along
 pub mod Leasts
 pub mod Filled
 pub mod Rowing
+pub mod Rounding

@@ -77,3 +77,9 @@ abbrev pub Ends : List Line → (p q : ℕ) → ℤ → ℤ → List ℤ → Opt
 Ends ls p q least left from None to = Fillings ls p q least left from (pos 0) to
 Ends ls p q least left from (Some s) to =
     Fillings ls p q least left from (s .left) to × (pos 1 ≤ℤ s .left) × (s .left ≤ℤ left) × Closed ls p q least to (s .group .bits)
+
+-- how rounds with thresholds halved down to 1 end
+abbrev pub RoundsEnd : List Line → (p q top : ℕ) → ℤ → List ℤ → Option Short → List ℤ → Type 0
+RoundsEnd ls p q top left from None to = Rounds ls p q top left from (pos 0) to
+RoundsEnd ls p q top left from (Some s) to =
+    Rounds ls p q top left from (s .left) to × (pos 1 ≤ℤ s .left) × (s .left ≤ℤ left) × Closed ls p q (pos 1) to (s .group .bits)

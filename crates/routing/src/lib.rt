@@ -2,8 +2,9 @@
 mod chain;
 pub mod checks;
 pub mod direct;
-pub mod kept;
-pub mod memory;
 mod fill;
 mod graph;
+pub mod kept;
+pub mod memory;
+mod rounds;
 pub mod router;
