@@ -48,7 +48,6 @@ module _ (ls : List Line) (plan : List ℤ) (long : length ls ≤ length plan) (
     (apart : (i j : ℕ) → i ≤ k → j ≤ k → getD chain i 0 ≡ getD chain j 0 → i ≡ j)
     (over : (i : ℕ) → i < k → Over (booked ls plan) least chain places i)
     (x : ℤ) where
-
   here : (i : ℕ) → i < k → getD places i 0 < length ls
   here i h = omega (arith, over i h .0, length-booked ls plan)
 
@@ -86,8 +85,8 @@ module _ (ls : List Line) (plan : List ℤ) (long : length ls ≤ length plan) (
   along-flow (suc i) h =
       flow-then ls (getD chain 0 0) (getD chain i 0) (getD chain (suc i) 0) x plan (at i) (at (suc i)) (along-flow i (omega arith))
       (flow-sent ls (at i) (getD places i 0) (here i (omega arith)) (omega (arith, here i (omega arith), along-length i)) (getD chain i 0) (getD chain (suc i) 0) x
-        (subst (λ t. joins (getD chain i 0) (getD chain t 0) (getD ls (getD places i 0) noLine) ≡ true) (add-one i) (joined i (omega arith)))
-        (λ e. let s : i ≡ suc i = apart i (suc i) (omega arith) (omega arith) e in omega arith))
+      (subst (λ t. joins (getD chain i 0) (getD chain t 0) (getD ls (getD places i 0) noLine) ≡ true) (add-one i) (joined i (omega arith)))
+      (λ e. let s : i ≡ suc i = apart i (suc i) (omega arith) (omega arith) e in omega arith))
 
   pub along-fits : fits ls plan ≡ true → pos 0 ≤ℤ x → ((i : ℕ) → i < k → x ≤ℤ roomAt (booked ls plan) chain places i) → (i : ℕ) → i ≤ k → fits ls (at i) ≡ true
   along-fits f low high zero h = f
@@ -101,6 +100,6 @@ module _ (ls : List Line) (plan : List ℤ) (long : length ls ≤ length plan) (
       let g = along-fits f low high i (omega arith) in
       let same : getD (at i) p (pos 0) ≡ getD plan p (pos 0) = along-ahead i i (omega arith) (omega arith) in
       let room : x ≤ℤ roomFrom (moved l (getD (at i) p (pos 0))) m =
-          subst (λ t. x ≤ℤ roomFrom (moved l t) m) (sym same) (subst (λ t. x ≤ℤ roomFrom t m) (booked-at ls plan p hp kp) (high i (omega arith))) in
+      subst (λ t. x ≤ℤ roomFrom (moved l t) m) (sym same) (subst (λ t. x ≤ℤ roomFrom t m) (booked-at ls plan p hp kp) (high i (omega arith))) in
       fits-set ls (at i) p hp ka (sentFrom l m (getD (at i) p (pos 0)) x) g
       (roomy-sent l m (getD (at i) p (pos 0)) x (roomy-at ls (at i) p hp ka g) low room)

@@ -42,7 +42,7 @@ pub usable-from : (ls : List Line) (plan : List ℤ) → Usable ls plan → usab
 usable-from ls plan u =
     and-from (leb (length ls) 256) (every bounded ls && (leb (length ls) (length plan) && fits ls plan)) (le-leb (length ls) 256 (u .few))
     (and-from (every bounded ls) (leb (length ls) (length plan) && fits ls plan) (u .sound)
-      (and-from (leb (length ls) (length plan)) (fits ls plan) (le-leb (length ls) (length plan) (u .long)) (u .fit)))
+    (and-from (leb (length ls) (length plan)) (fits ls plan) (le-leb (length ls) (length plan) (u .long)) (u .fit)))
 
 -- ---- one filling
 -- the room of a step is at least the least
@@ -55,10 +55,12 @@ over-room ls least chain places i o =
 -- a line that leads with some room leads with whatever room it has
 pub over-at : (ls : List Line) (least x : ℤ) (chain places : List ℕ) (i : ℕ) → Over ls least chain places i → x ≤ℤ roomAt ls chain places i → Over ls x chain places i
 over-at ls least x chain places i o h =
-    let l = getD ls (getD places i 0) noLine in
-    (o .0, and-from (joins (getD chain i 0) (getD chain (i + 1) 0) l) (leZ x (roomFrom l (getD chain i 0)))
-      (and-parts (joins (getD chain i 0) (getD chain (i + 1) 0) l) (leZ least (roomFrom l (getD chain i 0))) (o .1) .0)
-      (leZ-test x (roomFrom l (getD chain i 0)) h))
+    let l = getD ls (getD places i 0) noLine in (
+      o .0,
+      and-from (joins (getD chain i 0) (getD chain (i + 1) 0) l) (leZ x (roomFrom l (getD chain i 0)))
+          (and-parts (joins (getD chain i 0) (getD chain (i + 1) 0) l) (leZ least (roomFrom l (getD chain i 0))) (o .1) .0)
+          (leZ-test x (roomFrom l (getD chain i 0)) h),
+    )
 
 at-least : (a x y : ℤ) → x ≡ y → a ≤ℤ y → a ≤ℤ x
 at-least a x y e h = subst (λ t. a ≤ℤ t) (sym e) h
@@ -91,11 +93,11 @@ filling-leaves ls p q least left plan chain places k x u h f =
     let low = least-some (booked ls plan) least chain places k left x h (f .some) (f .over) (f .amount) in
     record {
       flow = subst (λ t. Flow ls t q x plan (sentAlong ls chain places x k plan)) (s .chain .first)
-        (subst (λ t. Flow ls (getD chain 0 0) t x plan (sentAlong ls chain places x k plan)) (s .chain .last)
+          (subst (λ t. Flow ls (getD chain 0 0) t x plan (sentAlong ls chain places x k plan)) (s .chain .last)
           (along-flow ls plan (u .long) least chain places k (s .apart) (f .over) x k (omega arith)));
       fit = along-fits ls plan (u .long) least chain places k (s .apart) (f .over) x (u .fit) (le-down x low) (f .amount .within) k (omega arith);
       long = along-length ls plan (u .long) least chain places k (s .apart) (f .over) x k;
-      behind = along-behind ls plan (u .long) least chain places k (s .apart) (f .over) x k (omega arith)
+      behind = along-behind ls plan (u .long) least chain places k (s .apart) (f .over) x k (omega arith);
     }
 
 pub usable-left : (ls : List Line) (p q : ℕ) (n : ℤ) (from to : List ℤ) → Usable ls from → Left ls p q n from to → Usable ls to
@@ -129,9 +131,10 @@ pub along-usable : (ls : List Line) (plan : List ℤ) (chain places : List ℕ) 
     → (i : ℕ) → i ≤ k → Usable ls (sentAlong ls chain places x i plan)
 along-usable ls plan chain places k x u apart over low i h =
     record {
-      few = u .few; sound = u .sound;
+      few = u .few;
+      sound = u .sound;
       long = subst (λ t. length ls ≤ t) (sym (along-length ls plan (u .long) x chain places k apart over x i)) (u .long);
-      fit = along-fits ls plan (u .long) x chain places k apart over x (u .fit) low (λ j l. over-room (booked ls plan) x chain places j (over j l)) i h
+      fit = along-fits ls plan (u .long) x chain places k apart over x (u .fit) low (λ j l. over-room (booked ls plan) x chain places j (over j l)) i h;
     }
 
 -- a plan number is within the two trusts

@@ -37,9 +37,9 @@ module _ (ls : List Line) (chain places : List ℕ) (left : ℤ) where
       record {
         most = le-trans y x left down (v .most);
         within = λ j l.
-          ⊎-elim (λ b. le-trans y x (roomAt ls chain places j) down (v .within j b))
-          (λ s. subst (λ t. y ≤ℤ roomAt ls chain places t) (sym s) (subst (λ t. y ≤ℤ t) e (le-refl y))) (last-or-before j i l);
-        met = inr (i, omega arith, e)
+            ⊎-elim (λ b. le-trans y x (roomAt ls chain places j) down (v .within j b))
+            (λ s. subst (λ t. y ≤ℤ roomAt ls chain places t) (sym s) (subst (λ t. y ≤ℤ t) e (le-refl y))) (last-or-before j i l);
+        met = inr (i, omega arith, e);
       }
 
   -- a step with no less room
@@ -48,6 +48,6 @@ module _ (ls : List Line) (chain places : List ℕ) (left : ℤ) where
       record {
         most = v .most;
         within = λ j l.
-          ⊎-elim (λ b. v .within j b) (λ s. subst (λ t. x ≤ℤ roomAt ls chain places t) (sym s) (subst (λ t. x ≤ℤ t) e (not-lt x y h))) (last-or-before j i l);
-        met = ⊎-elim (λ s. inl s) (λ s. inr (s .0, omega (arith, s .1), s .2)) (v .met)
+            ⊎-elim (λ b. v .within j b) (λ s. subst (λ t. x ≤ℤ roomAt ls chain places t) (sym s) (subst (λ t. x ≤ℤ t) e (not-lt x y h))) (last-or-before j i l);
+        met = ⊎-elim (λ s. inl s) (λ s. inr (s .0, omega (arith, s .1), s .2)) (v .met);
       }

@@ -8,3 +8,4 @@ pub mod Leasts
 pub mod Filled
 pub mod Rowing
 pub mod Rounding
+pub mod Settling

@@ -35,6 +35,7 @@ onward false true true = refl
 onward false true false = refl
 onward false false true = refl
 onward false false false = refl
+
 back : (r s t : Bool) → ((r || (s && false)) || (t && true)) ≡ (r || t)
 back true true true = refl
 back true true false = refl
@@ -44,6 +45,7 @@ back false true true = refl
 back false true false = refl
 back false false true = refl
 back false false false = refl
+
 nowhere : (r s t : Bool) → ((r || (s && false)) || (t && false)) ≡ (r || false)
 nowhere true true true = refl
 nowhere true true false = refl
@@ -122,8 +124,11 @@ module _ (S T : ℕ → ℕ → Type 0) (to : (m n : ℕ) → m < 64 → n < 64 
   chain-same : (A B : ℕ → ℕ → Type 0) → ((m n : ℕ) → m < 64 → n < 64 → A m n → B m n) → (c : List ℕ) (k : ℕ) → IsChain A p q c k → IsChain B p q c k
   chain-same A B f c k h =
       record {
-        long = h .long; first = h .first; last = h .last; members = h .members;
-        linked = λ i l. f (getD c i 0) (getD c (i + 1) 0) (h .members i (omega arith)) (h .members (i + 1) (omega arith)) (h .linked i l)
+        long = h .long;
+        first = h .first;
+        last = h .last;
+        members = h .members;
+        linked = λ i l. f (getD c i 0) (getD c (i + 1) 0) (h .members i (omega arith)) (h .members (i + 1) (omega arith)) (h .linked i l);
       }
 
   pub answered-same : (r : Reach) → Answered S p q r → Answered T p q r
@@ -131,7 +136,7 @@ module _ (S T : ℕ → ℕ → Type 0) (to : (m n : ℕ) → m < 64 → n < 64 
       record {
         chain = chain-same S T to (chain .members) (chain .steps) (h .chain);
         apart = h .apart;
-        least = λ other j o. h .least other j (chain-same T S back other j o)
+        least = λ other j o. h .least other j (chain-same T S back other j o);
       }
   answered-same (Closed group) h =
       record { inside = h .inside; outside = h .outside; closed = λ m n hm hn i s. h .closed m n hm hn i (back m n hm hn s) }

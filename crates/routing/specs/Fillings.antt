@@ -12,7 +12,12 @@ use Rattle.credit.specs.Plans.{booked, sentFrom, roomFrom}
 use Rattle.search.specs.Chains.{IsShortest, Separates}
 use Rattle.std.specs.declared.option.Option.{Option}
 use Rattle.std.specs.declared.option.Option.the-variants.{Some, None}
+use Rattle.std.specs.declared.result.Result.the-variants.{Ok, Err}
+use Rattle.members.specs.declared.group.Group.{Group}
+use Rattle.credit.specs.declared.refusal.Refusal.the-variants.{WantOfRoom}
+use Rattle.credit.specs.Refusals.{Verdict}
 use Rattle.routing.specs.declared.fill.Short.{Short}
+use Rattle.routing.specs.Meaning.{routerChecks}
 use Rattle.routing.specs.Steps.{LeadsAt, RoomStep}
 
 -- the plan once x more is moved from m over line i
@@ -83,3 +88,23 @@ abbrev pub RoundsEnd : List Line → (p q top : ℕ) → ℤ → List ℤ → Op
 RoundsEnd ls p q top left from None to = Rounds ls p q top left from (pos 0) to
 RoundsEnd ls p q top left from (Some s) to =
     Rounds ls p q top left from (s .left) to × (pos 1 ≤ℤ s .left) × (s .left ≤ℤ left) × Closed ls p q (pos 1) to (s .group .bits)
+
+-- What a router that fills chains leaves. R left to: its fillings leave so much to send, and the plan `to`. Refused, it names
+-- a group that no room leaves any more, with what was sent as the group's room, and the plan is as at entry.
+abbrev pub Settles : (ℤ → List ℤ → Type 0) → List Line → (p q : ℕ) → ℤ → List ℤ → Verdict → List ℤ → Type 0
+Settles R ls p q n entry (Ok u) exit = R (pos 0) exit
+Settles R ls p q n entry (Err e) exit =
+    (left : ℤ) × (to : List ℤ) × (g : Group) × R left to × Closed ls p q (pos 1) to (g .bits) × (e ≡ WantOfRoom g (n -ℤ left)) × (exit ≡ entry)
+
+-- the first refusal that applies, which leaves the plan as it was; or past the checks
+abbrev pub Past : Verdict → (Verdict → List ℤ → Type 0) → List ℤ → Verdict → List ℤ → Type 0
+Past (Err e) P entry r exit = (r ≡ Err e) × (exit ≡ entry)
+Past (Ok u) P entry r exit = P r exit
+
+-- one round with room of at least 1
+abbrev pub Breadths : List Line → (p q : ℕ) → ℤ → List ℤ → Verdict → List ℤ → Type 0
+Breadths ls p q n entry r exit = Past (routerChecks ls p q n entry) (Settles (Round ls p q (pos 1) n entry) ls p q n entry) entry r exit
+
+-- rounds with a threshold that starts at 1,048,576
+abbrev pub Scales : List Line → (p q : ℕ) → ℤ → List ℤ → Verdict → List ℤ → Type 0
+Scales ls p q n entry r exit = Past (routerChecks ls p q n entry) (Settles (Rounds ls p q 1048576 n entry) ls p q n entry) entry r exit

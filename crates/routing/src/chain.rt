@@ -41,7 +41,13 @@ pub(crate) fn places(lines: &[Line], plan: &[i32], least: i32, chain: &Chain) ->
 }
 
 // The least room of the steps, or what is still to send where that is less.
-pub(crate) fn least_room(lines: &[Line], plan: &[i32], chain: &Chain, places: &[usize; 64], left: i32) -> i64
+pub(crate) fn least_room(
+    lines: &[Line],
+    plan: &[i32],
+    chain: &Chain,
+    places: &[usize; 64],
+    left: i32,
+) -> i64
     requires long { ⌜ length (now lines) ≤ length (now plan) ⌝ }
     requires short { ⌜ now chain .steps < 64 ⌝ }
     requires over { ⌜ ((i : ℕ) → i < now chain .steps → getD (now places) i 0 < length (now lines)) ⌝ }

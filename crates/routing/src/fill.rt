@@ -25,7 +25,11 @@ fn planned_after(line: &Line, planned: i32, from: u32, x: i32) -> i32
     requires high { ⌜ planned ≤ℤ pos 2000000 ⌝ ∗ ⌜ x ≤ℤ pos 1000000 ⌝ }
     ensures { λ r. ⌜ r ≡ sentFrom (now (line .entry)) from planned x ⌝ }
 {
-    if line.a == from { planned + x } else { planned - x }
+    if line.a == from {
+        planned + x
+    } else {
+        planned - x
+    }
 }
 
 // Moves x more along a chain of different members, over lines that have room for it.
@@ -62,7 +66,14 @@ fn fill(lines: &[Line], plan: &mut [i32], chain: &Chain, least: i32, left: i32) 
 }
 
 // Fills one chain from payer to payee, or names a group that no line with enough room leaves.
-fn fill_next(lines: &[Line], plan: &mut [i32], payer: u32, payee: u32, least: i32, left: i32) -> Result<i32, Group>
+fn fill_next(
+    lines: &[Line],
+    plan: &mut [i32],
+    payer: u32,
+    payee: u32,
+    least: i32,
+    left: i32,
+) -> Result<i32, Group>
     requires usable { ⌜ usable (now lines) (now plan) ≡ true ⌝ }
     requires payer { ⌜ payer < 64 ⌝ }
     requires payee { ⌜ payee < 64 ⌝ }
@@ -85,7 +96,14 @@ pub(crate) struct Short {
 }
 
 // Fills chains from payer to payee as long as something is to send and there is one with enough room.
-pub(crate) fn round(lines: &[Line], plan: &mut [i32], payer: u32, payee: u32, least: i32, amount: i32) -> Option<Short>
+pub(crate) fn round(
+    lines: &[Line],
+    plan: &mut [i32],
+    payer: u32,
+    payee: u32,
+    least: i32,
+    amount: i32,
+) -> Option<Short>
     requires usable { ⌜ usable (now lines) (now plan) ≡ true ⌝ }
     requires payer { ⌜ payer < 64 ⌝ }
     requires payee { ⌜ payee < 64 ⌝ }

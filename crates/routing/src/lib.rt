@@ -1,4 +1,5 @@
 // Routers: who finds how a payment runs along the lines.
+pub mod breadth;
 mod chain;
 pub mod checks;
 pub mod direct;
@@ -8,3 +9,4 @@ pub mod kept;
 pub mod memory;
 mod rounds;
 pub mod router;
+pub mod scaling;

@@ -38,11 +38,12 @@ loop-i-again c =
     let fy : SFits w64 y = search needs in
     let left = toZ w32 (ofZ w32 (c .args .left)) in
     let e : y ≡ roomAt (booked ls xs) cs ps i =
-        c .room-from-room .ensures ∙ ap (λ t. roomFrom (moved (getD ls p noLine) t) m) (toZ-ofZ w32 _ fx) ∙ ap (λ t. roomFrom t m) (sym (booked-at ls xs p h k)) in
+    c .room-from-room .ensures ∙ ap (λ t. roomFrom (moved (getD ls p noLine) t) m) (toZ-ofZ w32 _ fx) ∙ ap (λ t. roomFrom t m) (sym (booked-at ls xs p h k)) in
     elim (c .if-room-least .came) [
-      then-room-least w ↦
-        subst (λ t. Least (booked ls xs) cs ps (i + 1) left t) (sym (w .least-is ∙ toZ-ofZ w64 y fy))
-        (least-less (booked ls xs) cs ps left i _ y (c .loop-i .inv) e (simp toZ-ofZ at (w .if-room-least .taken)))
-    | else-room-least w ↦
-        subst (λ t. Least (booked ls xs) cs ps (i + 1) left t) (sym (w .least-is))
-        (least-same (booked ls xs) cs ps left i _ y (c .loop-i .inv) e (simp toZ-ofZ at (w .if-room-least .left))) ]
+      | then-room-least w ↦
+          subst (λ t. Least (booked ls xs) cs ps (i + 1) left t) (sym (w .least-is ∙ toZ-ofZ w64 y fy))
+          (least-less (booked ls xs) cs ps left i _ y (c .loop-i .inv) e (simp toZ-ofZ at (w .if-room-least .taken)))
+      | else-room-least w ↦
+          subst (λ t. Least (booked ls xs) cs ps (i + 1) left t) (sym (w .least-is))
+          (least-same (booked ls xs) cs ps left i _ y (c .loop-i .inv) e (simp toZ-ofZ at (w .if-room-least .left)))
+    ]

@@ -27,9 +27,9 @@ loop-i-again c =
     let e = simp toZ-ofZ at (c .leads-to .ensures) in
     below-more _ _ (c .loop-i .inv)
     (λ h.
-      let t = simp toZ-ofZ at (h .1) in
-      both-ways (c .leads-to .result) (c .if-leads-to .left)
-      (e ∙ sym (ap (λ l. leads l (c .args .least) (c .args .from) (c .args .to)) (booked-at ls xs i (c .loop-i-test .taken) k)) ∙ t))
+    let t = simp toZ-ofZ at (h .1) in
+    both-ways (c .leads-to .result) (c .if-leads-to .left)
+    (e ∙ sym (ap (λ l. leads l (c .args .least) (c .args .from) (c .args .to)) (booked-at ls xs i (c .loop-i-test .taken) k)) ∙ t))
 
 pub unreachable-requires : need.unreachable-requires
 unreachable-requires c κs =
@@ -48,6 +48,7 @@ returns-then-leads-to c =
     let k : i < length xs = omega arith in
     let fx : SFits w32 (getD xs i (pos 0)) = search needs in
     let fl = c .fits .least in
-    let e = simp toZ-ofZ at (c .leads-to .ensures) in
-    (omega (arith, length-booked ls xs, c .loop-i-test .taken),
-      ap (λ l. leads l (c .args .least) (c .args .from) (c .args .to)) (booked-at ls xs i (c .loop-i-test .taken) k) ∙ sym e ∙ c .if-leads-to .taken)
+    let e = simp toZ-ofZ at (c .leads-to .ensures) in (
+      omega (arith, length-booked ls xs, c .loop-i-test .taken),
+      ap (λ l. leads l (c .args .least) (c .args .from) (c .args .to)) (booked-at ls xs i (c .loop-i-test .taken) k) ∙ sym e ∙ c .if-leads-to .taken,
+    )

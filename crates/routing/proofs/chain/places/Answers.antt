@@ -21,7 +21,7 @@ place-requires c κs =
     let s = c .pre .linked (c .loop-i .i) (c .loop-i-test .taken) in
     record {
       long = c .pre .long;
-      step = subst (λ t. RoomStep (booked (c .args .lines .now) (c .args .plan .now)) t (getD cs (c .loop-i .i) 0) (getD cs (c .loop-i .i + 1) 0)) (sym (toZ-ofZ w32 _ (c .fits .least))) s
+      step = subst (λ t. RoomStep (booked (c .args .lines .now) (c .args .plan .now)) t (getD cs (c .loop-i .i) 0) (getD cs (c .loop-i .i + 1) 0)) (sym (toZ-ofZ w32 _ (c .fits .least))) s;
     }
 
 pub loop-i-again : need.loop-i-again
@@ -31,8 +31,9 @@ loop-i-again c =
     let ps = c .loop-i .places in
     let i = c .loop-i .i in
     let p = c .place .result in
-    let least = toZ w32 (ofZ w32 (c .args .least)) in
-    (length-set ps i p ∙ c .loop-i .inv .0,
+    let least = toZ w32 (ofZ w32 (c .args .least)) in (
+      length-set ps i p ∙ c .loop-i .inv .0,
       below-more _ _
-      (λ k h. let ne : k ≢ i = omega arith in subst (λ t. LeadsAt ls least (getD cs k 0) (getD cs (k + 1) 0) t) (sym (getD-set-other ps i k p 0 ne)) (c .loop-i .inv .1 k h))
-      (subst (λ t. LeadsAt ls least (getD cs i 0) (getD cs (i + 1) 0) t) (sym (getD-set-same ps i p 0 (omega (arith, c .loop-i .inv .0, c .pre .short)))) (c .place .ensures)))
+          (λ k h. let ne : k ≢ i = omega arith in subst (λ t. LeadsAt ls least (getD cs k 0) (getD cs (k + 1) 0) t) (sym (getD-set-other ps i k p 0 ne)) (c .loop-i .inv .1 k h))
+          (subst (λ t. LeadsAt ls least (getD cs i 0) (getD cs (i + 1) 0) t) (sym (getD-set-same ps i p 0 (omega (arith, c .loop-i .inv .0, c .pre .short)))) (c .place .ensures)),
+    )

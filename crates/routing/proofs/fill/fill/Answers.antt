@@ -27,7 +27,7 @@ places-places-requires c κs =
     record {
       long = usable-facts ls xs (c .pre .usable) .long;
       short = c .pre .short;
-      linked = λ i h. subst (λ t. RoomStep (booked ls xs) t (getD cs i 0) (getD cs (i + 1) 0)) (sym (toZ-ofZ w32 _ (c .fits .least))) (c .pre .linked i h)
+      linked = λ i h. subst (λ t. RoomStep (booked ls xs) t (getD cs i 0) (getD cs (i + 1) 0)) (sym (toZ-ofZ w32 _ (c .fits .least))) (c .pre .linked i h);
     }
 
 pub least-room-x-requires : need.least-room-x-requires
@@ -37,7 +37,7 @@ least-room-x-requires c κs =
     record {
       long = usable-facts ls xs (c .pre .usable) .long;
       short = c .pre .short;
-      over = λ i h. let o = c .places-places .ensures i h .0 in omega (arith, o, length-booked ls xs)
+      over = λ i h. let o = c .places-places .ensures i h .0 in omega (arith, o, length-booked ls xs);
     }
 
 pub send-requires : need.send-requires
@@ -57,10 +57,12 @@ send-requires c κs =
     let low = least-some (booked ls xs) least cs ps k left r (c .pre .least) (c .pre .some) over v in
     let e = same r left low (v .most) (c .pre .small) in
     record {
-      usable = c .pre .usable; short = c .pre .short; apart = c .pre .apart;
+      usable = c .pre .usable;
+      short = c .pre .short;
+      apart = c .pre .apart;
       over = λ i h. subst (λ t. Over (booked ls xs) t cs ps i) (sym e) (over-at (booked ls xs) least r cs ps i (over i h) (v .within i h));
       low = subst (λ t. pos 0 ≤ℤ t) (sym e) (omega (arith, ints, low));
-      high = subst (λ t. t ≤ℤ pos 1000000) (sym e) (omega (arith, ints, v .most, c .pre .small))
+      high = subst (λ t. t ≤ℤ pos 1000000) (sym e) (omega (arith, ints, v .most, c .pre .small));
     }
 
 pub returns : need.returns

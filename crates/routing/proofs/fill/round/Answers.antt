@@ -56,9 +56,10 @@ loop-left-again c =
     let k = small _ (c .args .amount) (c .fits .amount) (c .loop-left .inv .3) (c .pre .small) in
     let e = less _ (c .in-Ok .x) s m k in
     let least = toZ w32 (ofZ w32 (c .args .least)) in
-    let amount = toZ w32 (ofZ w32 (c .args .amount)) in
-    (subst (λ t. Fillings (c .args .lines .now) (c .args .payer) (c .args .payee) least amount (c .args .plan .now) t (c .fill-next .last .plan)) (sym e)
-        (fills-more _ _ _ _ _ _ _ _ f amount (c .args .plan .now) (c .loop-left .inv .0)),
+    let amount = toZ w32 (ofZ w32 (c .args .amount)) in (
+      subst (λ t. Fillings (c .args .lines .now) (c .args .payer) (c .args .payee) least amount (c .args .plan .now) t (c .fill-next .last .plan)) (sym e)
+          (fills-more _ _ _ _ _ _ _ _ f amount (c .args .plan .now) (c .loop-left .inv .0)),
       fills-usable _ _ _ _ _ _ _ _ f (c .loop-left .inv .1) h,
       subst (λ t. pos 0 ≤ℤ t) (sym e) (omega (arith, ints, s, m)),
-      subst (λ t. t ≤ℤ amount) (sym e) (omega (arith, ints, s, c .loop-left .inv .3)))
+      subst (λ t. t ≤ℤ amount) (sym e) (omega (arith, ints, s, c .loop-left .inv .3)),
+    )

@@ -47,5 +47,5 @@ returns c =
     let all = take-all (c .loop-i .i) (booked ls xs) (omega (arith, length-booked ls xs, c .loop-i-test .left)) in
     record {
       sound = λ m n h. any-step (booked ls xs) least m n (sym (c .loop-i .inv m n ∙ ap (λ t. anyLeads t (toZ w32 (ofZ w32 least)) m n) all ∙ ap (λ t. anyLeads (booked ls xs) t m n) f) ∙ h);
-      complete = λ m n s. c .loop-i .inv m n ∙ ap (λ t. anyLeads t (toZ w32 (ofZ w32 least)) m n) all ∙ ap (λ t. anyLeads (booked ls xs) t m n) f ∙ step-any (booked ls xs) least m n (s .0) (s .1)
+      complete = λ m n s. c .loop-i .inv m n ∙ ap (λ t. anyLeads t (toZ w32 (ofZ w32 least)) m n) all ∙ ap (λ t. anyLeads (booked ls xs) t m n) f ∙ step-any (booked ls xs) least m n (s .0) (s .1);
     }

@@ -31,7 +31,7 @@ returns-in-None c =
     let v = c .loop-least .inv in
     subst (λ t. Rounds (c .args .lines .now) (c .args .payer) (c .args .payee) (c .args .top) t (c .args .plan .now) (pos 0) (c .round .last .plan)) (toZ-ofZ w32 _ (c .fits .amount))
     (v .5 (pos 0) (c .round .last .plan)
-      (all-sent _ _ _ (c .loop-least .least) _ _ _ _ (threshold (c .loop-least .least) (v .1)) (c .loop-least-test .taken) (c .in-None .ensures tt)))
+    (all-sent _ _ _ (c .loop-least .least) _ _ _ _ (threshold (c .loop-least .least) (v .1)) (c .loop-least-test .taken) (c .in-None .ensures tt)))
 
 pub loop-least-again : need.loop-least-again
 loop-least-again c =
@@ -40,15 +40,17 @@ loop-least-again c =
     let n = c .loop-least .least in
     let h = c .loop-least-test .taken in
     let s = c .in-Some .short .left in
-    let e = keeps s _ (c .args .amount) (f .1) (f .2) (v .4) (c .fits .amount) (c .pre .small) in
-    (half-some n h, half-small n 1048576 (v .1),
+    let e = keeps s _ (c .args .amount) (f .1) (f .2) (v .4) (c .fits .amount) (c .pre .small) in (
+      half-some n h,
+      half-small n 1048576 (v .1),
       fillings-usable _ _ _ _ _ _ _ _ (v .2) (positive n h (v .1)) (f .0),
       subst (λ t. pos 1 ≤ℤ t) (sym e) (f .1),
       subst (λ t. t ≤ℤ toZ w32 (ofZ w32 (c .args .amount))) (sym e) (below s _ _ (f .2) (v .4)),
       λ rest to r.
-        v .5 rest to
-        (then-half _ _ _ n _ _ _ s (c .round .last .plan) (c .in-Some .short .group .bits) (threshold n (v .1)) h (f .0) (f .3) rest to
-          (subst (λ t. Rounds (c .args .lines .now) (c .args .payer) (c .args .payee) (n / 2) t (c .round .last .plan) rest to) e r)))
+          v .5 rest to
+          (then-half _ _ _ n _ _ _ s (c .round .last .plan) (c .in-Some .short .group .bits) (threshold n (v .1)) h (f .0) (f .3) rest to
+          (subst (λ t. Rounds (c .args .lines .now) (c .args .payer) (c .args .payee) (n / 2) t (c .round .last .plan) rest to) e r)),
+    )
 
 pub returns : need.returns
 returns c =

@@ -13,7 +13,7 @@ abbrev pub Inv-loop-least : given.InvT-loop-least
 Inv-loop-least l =
     (1 ≤ l .least) × (l .least ≤ 1048576) × (usable (l .lines) (l .plan) ≡ true) × (pos 1 ≤ℤ l .left) × (l .left ≤ℤ l .amount)
     × ((rest : ℤ) (to : List ℤ) → Rounds (l .lines) (l .payer) (l .payee) (l .least) (l .left) (l .plan) rest to
-      → Rounds (l .lines) (l .payer) (l .payee) (l .top) (l .amount) (l .entry .plan) rest to)
+    → Rounds (l .lines) (l .payer) (l .payee) (l .top) (l .amount) (l .entry .plan) rest to)
 
 abbrev pub μ-loop-least : given.MeasureT-loop-least
 μ-loop-least l = l .least
