@@ -1,2 +1,6 @@
 // A list of calls given to two new ledgers, and the law of router independence.
+pub mod entry;
+pub mod replay;
+mod serve;
 pub mod sums;
+mod tokens;
