@@ -10,6 +10,9 @@ ghost use Rattle.closing.specs.Closes.{doorChecks, Closes, Settled};
 use batch::sheet::SheetLine;
 use crate::close::close_open;
 use crate::picking::Picks;
+use crate::routers::Routers;
+use crate::routers::RoutersPicks;
+use crate::routers::RoutersRouter;
 use credit::refusal::Refusal;
 use ledger::state::Ledger;
 use routing::router::Router;
@@ -54,11 +57,19 @@ fn close_into<R: Router + Picks>(ledger: &mut Ledger, router: &mut R, batch: &[u
 
 // Closes a batch: carries out its lines in order, abandons the groups that it leaves open, and states the ledger. The
 // memory for the sheet is taken first: where there is none, nothing has moved.
-pub fn close_batch<R: Router + Picks>(ledger: &mut Ledger, router: &mut R, batch: &[u8], heap: Global) -> Result<Vec<SheetLine>, AllocError>
+pub fn close_with<R: Router + Picks>(ledger: &mut Ledger, router: &mut R, batch: &[u8], heap: Global) -> Result<Vec<SheetLine>, AllocError>
     ensures closes { λ r. ⌜ Cases r (λ sheet. Closes (stateOf (now (ledger .entry))) (now (batch .entry)) (vec-items sheet) (stateOf (now (ledger .exit)))) (λ _. stateOf (now (ledger .exit)) ≡ stateOf (now (ledger .entry))) ⌝ }
     ensures settled { λ _. ⌜ Settled (stateOf (now (ledger .entry))) (stateOf (now (ledger .exit))) ⌝ }
 {
     let mut sheet = Vec::with_capacity(heap, batch.len().min(LONGEST_BATCH) + OTHER_LINES)?;
     close_into(ledger, router, batch, &mut sheet);
     Ok(sheet)
+}
+
+// Closes a batch by the routers that it picks, direct first over breadth at the start.
+pub fn close_batch(ledger: &mut Ledger, batch: &[u8], heap: Global) -> Result<Vec<SheetLine>, AllocError>
+    ensures closes { λ r. ⌜ Cases r (λ sheet. Closes (stateOf (now (ledger .entry))) (now (batch .entry)) (vec-items sheet) (stateOf (now (ledger .exit)))) (λ _. stateOf (now (ledger .exit)) ≡ stateOf (now (ledger .entry))) ⌝ }
+    ensures settled { λ _. ⌜ Settled (stateOf (now (ledger .entry))) (stateOf (now (ledger .exit))) ⌝ }
+{
+    close_with(ledger, &mut Routers::new(), batch, heap)
 }

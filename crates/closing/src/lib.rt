@@ -5,4 +5,5 @@ pub mod close;
 pub mod marks;
 pub mod outcome;
 pub mod picking;
+pub mod routers;
 pub mod statement;
