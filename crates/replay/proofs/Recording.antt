@@ -3,12 +3,14 @@ use mathlib.Core.Path.{_≡_, refl, sym, _∙_, ap, subst, subst₂}
 use mathlib.Core.List.{List, [], _∷_, _++_, map, reverse}
 use lib.IntN.{ℤ}
 use Rattle.std.proofs.shelf.Lists.{reverse-append}
+use Rattle.std.specs.Of.Vec.{vec-items}
 use Rattle.credit.specs.Net.{netTable}
 use Rattle.ledger.specs.declared.call.Call.{Call}
 use Rattle.ledger.specs.declared.call.Answer.{Answer}
 use Rattle.ledger.specs.States.{State, fresh}
 use Rattle.ledger.specs.Calls.{Does}
 use Rattle.replay.specs.declared.entry.Entry.{Entry}
+use Rattle.replay.specs.declared.replay.Journal.{Journal}
 use Rattle.replay.specs.Runs.{Turn, latest, Run, calls}
 use Rattle.replay.specs.Records.{entryOf, Closed, ClosedTwice}
 use Rattle.replay.proofs.Agree.{law}
@@ -38,8 +40,8 @@ pub recorded-push : (s : State) (cs cs′ : List Call) (es es′ : List Entry) (
 recorded-push s cs cs′ es es′ c r s′ nets k d n x y =
     subst₂ (λ (v : List Call) (w : List Entry). Recorded s′ v w) (sym x) (sym (y ∙ ap (λ (v : List ℤ). es ++ record { call = c; answer = r; nets = v } ∷ []) n)) (recorded-more s cs es c r s′ k d)
 
-pub recorded-closed : (s : State) (cs : List Call) (es : List Entry) → Recorded s cs es → Closed cs es
-recorded-closed s cs es k = record { turns = k .turns; run = k .run; over = k .over; shown = k .shown }
+pub recorded-closed : (s : State) (cs : List Call) (j : Journal) → Recorded s cs (vec-items (j .entries)) → vec-items (j .lines) ≡ s .lines → Closed cs j
+recorded-closed s cs j k e = record { turns = k .turns; run = k .run; over = k .over; shown = k .shown; left = ap (λ (v : State). v .lines) (k .at) ∙ sym e }
 
-pub closed-twice : (cs : List Call) (es fs : List Entry) → Closed cs es → Closed cs fs → ClosedTwice cs es fs
-closed-twice cs es fs a b = record { one = a; other = b; lawful = law (a .turns) (b .turns) (a .run) (b .run) (a .over ∙ sym (b .over)) }
+pub closed-twice : (cs : List Call) (j k : Journal) → Closed cs j → Closed cs k → ClosedTwice cs j k
+closed-twice cs j k a b = record { one = a; other = b; lawful = law (a .turns) (b .turns) (a .run) (b .run) (a .over ∙ sym (b .over)) }

@@ -1,7 +1,6 @@
 // A list of calls given alike to two new ledgers.
 ghost use mathlib.Core.Path.{_≡_};
 ghost use Rattle.std.specs.Vec.{made};
-ghost use Rattle.std.specs.Of.Vec.{vec-items};
 ghost use Rattle.replay.specs.Law.{Law};
 ghost use Rattle.replay.specs.Records.{Closed, ClosedTwice};
 use crate::entry::Entry;
@@ -9,23 +8,31 @@ use crate::serve::serve;
 use crate::tokens::Held;
 use crate::tokens::Served;
 use crate::tokens::give_back;
+use credit::line::Line;
 use ledger::call::Call;
 use ledger::state::Ledger;
 use routing::router::Router;
 use std::alloc::AllocError;
 use std::alloc::Global;
 
-// What two runs over the same calls left, call by call.
+// What a run shows: an entry for each call, and the lines as they stand at its end.
+#[derive(Drop)]
+pub struct Journal {
+    pub entries: Vec<Entry>,
+    pub lines: Vec<Line>,
+}
+
+// What two runs over the same calls show.
 #[derive(Drop)]
 pub struct TwoRuns {
-    pub one: Vec<Entry>,
-    pub other: Vec<Entry>,
+    pub one: Journal,
+    pub other: Journal,
 }
 
 // Gives a list of calls to a new ledger, each served by the router.
-fn close<R: Router>(heap: Global, calls: &[Call], router: &mut R) -> Result<Vec<Entry>, AllocError>
+fn close<R: Router>(heap: Global, calls: &[Call], router: &mut R) -> Result<Journal, AllocError>
     ensures law { λ _. ⌜ Law ⌝ }
-    ensures run { λ r. ⌜ made r (λ v. Closed (now (calls .entry)) (vec-items v)) ⌝ }
+    ensures run { λ r. ⌜ made r (λ v. Closed (now (calls .entry)) v) ⌝ }
 {
     let mut entries = Vec::with_capacity(heap, calls.len())?;
     let mut ledger = Ledger::new(heap)?;
@@ -41,15 +48,19 @@ fn close<R: Router>(heap: Global, calls: &[Call], router: &mut R) -> Result<Vec<
             nets,
         });
     }
+    let lines = ledger.lines().to_vec(heap);
     give_back(&mut ledger, held);
-    Ok(entries)
+    Ok(Journal {
+        entries,
+        lines: lines?,
+    })
 }
 
 // Two runs over the same calls, side by side.
-fn side_by_side(calls: &[Call], one: Vec<Entry>, other: Vec<Entry>) -> TwoRuns
-    requires first { ⌜ Closed (now calls) (vec-items one) ⌝ }
-    requires second { ⌜ Closed (now calls) (vec-items other) ⌝ }
-    ensures { λ r. ⌜ ClosedTwice (now (calls .entry)) (vec-items (r .one)) (vec-items (r .other)) ⌝ }
+fn side_by_side(calls: &[Call], one: Journal, other: Journal) -> TwoRuns
+    requires first { ⌜ Closed (now calls) one ⌝ }
+    requires second { ⌜ Closed (now calls) other ⌝ }
+    ensures { λ r. ⌜ ClosedTwice (now (calls .entry)) (r .one) (r .other) ⌝ }
 {
     TwoRuns { one, other }
 }
@@ -63,7 +74,7 @@ pub fn close_twice<R: Router, S: Router>(
     rival: &mut S,
 ) -> Result<TwoRuns, AllocError>
     ensures law { λ _. ⌜ Law ⌝ }
-    ensures runs { λ r. ⌜ made r (λ v. ClosedTwice (now (calls .entry)) (vec-items (v .one)) (vec-items (v .other))) ⌝ }
+    ensures runs { λ r. ⌜ made r (λ v. ClosedTwice (now (calls .entry)) (v .one) (v .other)) ⌝ }
 {
     let one = close(heap, calls, router)?;
     let other = close(heap, calls, rival)?;

@@ -1,7 +1,7 @@
 use borrow.Author.Needs.{needs}
 use Prim.Native.Nat.{_<_, _≤_}
 use native.Mathlib.Omega.{arith}
-use mathlib.Core.Path.{_≡_, subst}
+use mathlib.Core.Path.{_≡_, _∙_, subst}
 use mathlib.Core.List.{List}
 use lib.ListN.{length}
 use Rattle.std.proofs.shelf.Lists.{take-more, take-all}
@@ -18,6 +18,9 @@ returns-in-Break-entries g c = record { law = law; run = search needs }
 pub returns-in-Break-ledger : need.returns-in-Break-ledger
 returns-in-Break-ledger g c = record { law = law; run = search needs }
 
+pub returns-in-Break-lines : need.returns-in-Break-lines
+returns-in-Break-lines g c = record { law = law; run = search needs }
+
 pub loop-call-again : need.loop-call-again
 loop-call-again g c =
     let h : c .loop-call .call-index < length (c .args .calls .now) = omega arith in (
@@ -32,5 +35,5 @@ returns g c =
     let h : length (c .args .calls .now) ≤ c .loop-call .call-index = omega arith in
     record {
       law = law;
-      run = recorded-closed _ _ _ (subst (λ (cs : List Call). Recorded (stateOf (c .loop-call .ledger)) cs (vec-items (c .loop-call .entries))) (take-all (c .loop-call .call-index) (c .args .calls .now) h) (c .loop-call .inv .1));
+      run = recorded-closed _ _ _ (subst (λ (cs : List Call). Recorded (stateOf (c .loop-call .ledger)) cs (vec-items (c .loop-call .entries))) (take-all (c .loop-call .call-index) (c .args .calls .now) h) (c .loop-call .inv .1)) (c .in-Continue-lines .ensures tt .exact (λ x y e. e) ∙ c .lines .ensures);
     }
