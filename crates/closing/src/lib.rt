@@ -7,3 +7,5 @@ pub mod outcome;
 pub mod picking;
 pub mod routers;
 pub mod statement;
+#[cfg(test)]
+mod tests;
