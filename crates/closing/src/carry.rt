@@ -1,39 +1,14 @@
 // For the run of a batch: one form carried out on a ledger.
-ghost use mathlib.Core.Path.{_≡_};
-ghost use lib.ListN.{length};
 ghost use Rattle.ledger.specs.States.{stateOf};
-ghost use Rattle.ledger.specs.Answers.{doneOr, closedOr};
 ghost use Rattle.closing.specs.Carries.{Serves, Picking};
 ghost use Rattle.batch.specs.declared.form.Form.the-variants.{Try as TryForm};
-use batch::form::Choice;
 use batch::form::Form;
 use crate::picking::Picks;
-use credit::refusal::Refusal;
+use ledger::answer::closed_or;
+use ledger::answer::done_or;
 use ledger::call::Answer;
-use ledger::call::Closing;
 use ledger::state::Ledger;
 use routing::router::Router;
-
-// The answer of a call that answers nothing more where it is accepted.
-fn done_or(r: Result<(), Refusal>) -> Answer
-    ensures { λ a. ⌜ a ≡ doneOr r ⌝ }
-{
-    match r {
-        Ok(()) => Answer::Done,
-        Err(e) => Answer::Refused(e),
-    }
-}
-
-// The answer of a call that closes a group of payments.
-fn closed_or(r: Result<Closing, Refusal>) -> Answer
-    ensures { λ a. ⌜ a ≡ closedOr r ⌝ }
-{
-    match r {
-        Ok(Closing::Kept) => Answer::Kept,
-        Ok(Closing::Undone) => Answer::Undone,
-        Err(e) => Answer::Refused(e),
-    }
-}
 
 // Whether a payment would find room: a reservation, released at once.
 fn try_out<R: Router>(ledger: &mut Ledger, router: &mut R, payer: u32, payee: u32, amount: i32, plan: &mut [i32; 256]) -> Answer

@@ -1,4 +1,5 @@
 // The ledger: lines, open groups of payments, the standing reservation, and the calls on them.
+pub mod answer;
 pub mod call;
 mod checks;
 pub mod lines;

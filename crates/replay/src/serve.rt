@@ -3,41 +3,19 @@ ghost use mathlib.Core.Path.{_≡_};
 ghost use lib.Dec.{eqb};
 ghost use lib.ListN.{length};
 ghost use Rattle.ledger.specs.States.{stateOf};
-ghost use Rattle.ledger.specs.Answers.{doneOr, closedOr};
 ghost use Rattle.replay.specs.Tokens.{placesOf, onSheet, Genuine, Serves};
 use crate::tokens::Held;
 use crate::tokens::Served;
 use crate::tokens::book;
 use crate::tokens::release;
 use crate::tokens::reserve;
-use credit::refusal::Refusal;
+use ledger::answer::closed_or;
+use ledger::answer::done_or;
 use ledger::call::Answer;
 use ledger::call::Call;
-use ledger::call::Closing;
 use ledger::reservation::Claim;
 use ledger::state::Ledger;
 use routing::router::Router;
-
-// The answer of a call that answers nothing more.
-fn done_or(result: Result<(), Refusal>) -> Answer
-    ensures { λ r. ⌜ r ≡ doneOr result ⌝ }
-{
-    match result {
-        Ok(()) => Answer::Done,
-        Err(refusal) => Answer::Refused(refusal),
-    }
-}
-
-// The answer of a call that closes a group of payments.
-fn closed_or(result: Result<Closing, Refusal>) -> Answer
-    ensures { λ r. ⌜ r ≡ closedOr result ⌝ }
-{
-    match result {
-        Ok(Closing::Kept) => Answer::Kept,
-        Ok(Closing::Undone) => Answer::Undone,
-        Err(refusal) => Answer::Refused(refusal),
-    }
-}
 
 // Gives a ledger one call, with this sheet where the call takes one.
 fn serve_on<R: Router>(
