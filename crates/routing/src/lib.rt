@@ -10,3 +10,5 @@ pub mod memory;
 mod rounds;
 pub mod router;
 pub mod scaling;
+#[cfg(test)]
+mod tests;
