@@ -2,12 +2,13 @@
 use Prim.Native.Nat.{ℕ, _+_, _<_, _≤_}
 use native.Mathlib.Omega.{arith}
 use mathlib.Core.Path.{_≡_, refl, sym, ap, _∙_, subst}
-use mathlib.Core.Bool.{true, false}
+use mathlib.Core.Bool.{Bool, true, false, cond}
 use mathlib.Core.Logic.{_⊎_, inl, inr, ⊎-elim}
 use mathlib.Core.List.{List}
 use lib.IntN.{ℤ, pos}
 use lib.Signed.{_≤ℤ_, ltZ}
 use Rattle.std.proofs.shelf.Signed.{ints}
+use Rattle.std.specs.Numbers.{minZ}
 use Rattle.credit.specs.declared.line.Line.{Line}
 use Rattle.routing.specs.Fillings.{Over, roomAt, Least}
 
@@ -31,7 +32,7 @@ module _ (ls : List Line) (chain places : List ℕ) (left : ℤ) where
   least-none = record { most = le-refl left; within = λ i h. absurd (omega arith); met = inl refl }
 
   -- a step with less room
-  pub least-less : (i : ℕ) (x y : ℤ) → Least ls chain places i left x → y ≡ roomAt ls chain places i → ltZ y x ≡ true → Least ls chain places (i + 1) left y
+  least-less : (i : ℕ) (x y : ℤ) → Least ls chain places i left x → y ≡ roomAt ls chain places i → ltZ y x ≡ true → Least ls chain places (i + 1) left y
   least-less i x y v e h =
       let down = lt-le y x h in
       record {
@@ -43,7 +44,7 @@ module _ (ls : List Line) (chain places : List ℕ) (left : ℤ) where
       }
 
   -- a step with no less room
-  pub least-same : (i : ℕ) (x y : ℤ) → Least ls chain places i left x → y ≡ roomAt ls chain places i → ltZ y x ≡ false → Least ls chain places (i + 1) left x
+  least-same : (i : ℕ) (x y : ℤ) → Least ls chain places i left x → y ≡ roomAt ls chain places i → ltZ y x ≡ false → Least ls chain places (i + 1) left x
   least-same i x y v e h =
       record {
         most = v .most;
@@ -51,3 +52,11 @@ module _ (ls : List Line) (chain places : List ℕ) (left : ℤ) where
             ⊎-elim (λ b. v .within j b) (λ s. subst (λ t. x ≤ℤ roomAt ls chain places t) (sym s) (subst (λ t. x ≤ℤ t) e (not-lt x y h))) (last-or-before j i l);
         met = ⊎-elim (λ s. inl s) (λ s. inr (s .0, omega (arith, s .1), s .2)) (v .met);
       }
+
+  -- a step more
+  pub least-more : (i : ℕ) (x y : ℤ) → Least ls chain places i left x → y ≡ roomAt ls chain places i → Least ls chain places (i + 1) left (minZ x y)
+  least-more i x y v e = by (ltZ y x) refl
+    where
+      by : (t : Bool) → ltZ y x ≡ t → Least ls chain places (i + 1) left (cond t y x)
+      by true h = least-less i x y v e h
+      by false h = least-same i x y v e h

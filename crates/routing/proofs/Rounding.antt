@@ -2,19 +2,18 @@
 use Prim.Native.Nat.{ℕ, zero, suc, _+_, _/_, _<_, _≤_}
 use native.Mathlib.Omega.{arith}
 use mathlib.Core.Path.{_≡_, refl, sym, ap, _∙_, subst}
-use mathlib.Core.Bool.{true}
+use mathlib.Core.Bool.{Bool, true, false, cond}
 use mathlib.Core.Logic.{_⊎_, inl, inr, ⊎-elim}
 use mathlib.Core.List.{List}
+use lib.Dec.{ltb}
+use Rattle.std.specs.declared.option.Option.the-variants.{Some, None}
 use lib.IntN.{ℤ, pos, _+ℤ_, _-ℤ_}
 use lib.Signed.{_≤ℤ_}
 use Rattle.std.proofs.shelf.Signed.{ints}
-use Rattle.std.proofs.shelf.Tests.{cases-lt}
+use Rattle.std.proofs.shelf.Tests.{cases-lt, ltb-true, ltb-false}
 use Rattle.credit.specs.declared.line.Line.{Line}
 use Rattle.routing.specs.Meaning.{usable}
-use Rattle.std.specs.declared.option.Option.{Option}
-use Rattle.std.specs.declared.option.Option.the-variants.{Some, None}
-use Rattle.routing.specs.declared.fill.Short.{Short}
-use Rattle.routing.specs.Fillings.{Fillings, none, more, Closed, Round, Rounds, last, next, Ends, RoundsEnd}
+use Rattle.routing.specs.Fillings.{Fillings, none, more, Closed, Round, Rounds, last, next}
 use Rattle.routing.proofs.Filled.{Usable, usable-facts, usable-from, Left, left-add, usable-left, fillings-leave}
 
 pub half-some : (n : ℕ) → 1 < n → 1 ≤ n / 2
@@ -22,6 +21,21 @@ half-some n h = omega arith
 
 half-less : (n k : ℕ) → n ≤ suc k → 1 < n → n / 2 ≤ k
 half-less n k h l = omega arith
+
+-- half a threshold, unless it is 1
+pub halved-some : (n h : ℕ) → Some h ≡ cond (ltb 1 n) (Some (n / 2)) None → (1 < n) × (h ≡ n / 2)
+halved-some n h e = by (ltb 1 n) refl e
+  where
+    by : (t : Bool) → ltb 1 n ≡ t → Some h ≡ cond t (Some (n / 2)) None → (1 < n) × (h ≡ n / 2)
+    by true l f = (ltb-true 1 n l, cc)
+    by false l f = let z : _≡_ {A = ℕ} 0 1 = cc in absurd (omega arith)
+
+pub halved-none : (n : ℕ) → None ≡ cond (ltb 1 n) (Some (n / 2)) None → n ≤ 1
+halved-none n e = by (ltb 1 n) refl e
+  where
+    by : (t : Bool) → ltb 1 n ≡ t → None ≡ cond t (Some (n / 2)) None → n ≤ 1
+    by true l f = let z : _≡_ {A = ℕ} 0 1 = cc in absurd (omega arith)
+    by false l f = ltb-false 1 n l
 
 pub one : (n : ℕ) → 1 ≤ n → n ≤ 1 → n ≡ 1
 one n h k = omega arith
@@ -35,9 +49,14 @@ module _ (ls : List Line) (p q : ℕ) where
       (λ l. subst (λ t. Rounds ls p q t (pos 0) plan (pos 0) plan) (sym (one least k l)) (last (none, inl refl))) (cases-lt 1 least)
 
   -- a round that leaves nothing to send
-  pub all-sent : (least : ℕ) (z left : ℤ) (from to : List ℤ) → z ≡ pos least → 1 < least → Fillings ls p q z left from (pos 0) to → Rounds ls p q least left from (pos 0) to
+  pub all-sent : (least : ℕ) (z left : ℤ) (from to : List ℤ) → z ≡ pos least → 1 ≤ least → Fillings ls p q z left from (pos 0) to → Rounds ls p q least left from (pos 0) to
   all-sent least z left from to e h f =
-      next h (subst (λ t. Fillings ls p q t left from (pos 0) to) e f, inl refl) (idle (least / 2) (least / 2) to (omega arith) (half-some least h))
+      ⊎-elim
+      (λ l. next l (subst (λ t. Fillings ls p q t left from (pos 0) to) e f, inl refl) (idle (least / 2) (least / 2) to (omega arith) (half-some least l)))
+      (λ l.
+      let o = one least h l in
+      subst (λ t. Rounds ls p q t left from (pos 0) to) (sym o) (last (subst (λ t. Fillings ls p q t left from (pos 0) to) (e ∙ ap pos o) f, inl refl)))
+      (cases-lt 1 least)
 
   -- a round that leaves something
   pub then-half : (least : ℕ) (z left : ℤ) (from : List ℤ) (mid : ℤ) (via : List ℤ) (g : ℕ) → z ≡ pos least → 1 < least → Fillings ls p q z left from mid via
@@ -46,16 +65,11 @@ module _ (ls : List Line) (p q : ℕ) where
       next h (subst (λ t. Fillings ls p q t left from mid via) e f, inr (g, subst (λ t. Closed ls p q t via g) e k)) r
 
   -- the last round
-  pub ends-rounds : (least top : ℕ) (left n : ℤ) (from plan : List ℤ) → least ≡ 1 → left ≤ℤ n
-      → ((rest : ℤ) (to : List ℤ) → Rounds ls p q least left from rest to → Rounds ls p q top n plan rest to)
-      → (r : Option Short) (to : List ℤ) → Ends ls p q (pos 1) left from r to → RoundsEnd ls p q top n plan r to
-  ends-rounds least top left n from plan e h all None to f =
-      all (pos 0) to (subst (λ t. Rounds ls p q t left from (pos 0) to) (sym e) (last (f, inl refl)))
-  ends-rounds least top left n from plan e h all (Some s) to f =
-      (all (s .left) to (subst (λ t. Rounds ls p q t left from (s .left) to) (sym e) (last (f .0, inr (s .group .bits, f .3)))), f .1, less (s .left) left n (f .2) h, f .3)
-    where
-      less : (a b c : ℤ) → a ≤ℤ b → b ≤ℤ c → a ≤ℤ c
-      less a b c h k = omega (arith, ints)
+  pub then-none : (least : ℕ) (z left : ℤ) (from : List ℤ) (rest : ℤ) (to : List ℤ) (g : ℕ) → z ≡ pos least → least ≡ 1 → Fillings ls p q z left from rest to
+      → Closed ls p q z to g → Rounds ls p q least left from rest to
+  then-none least z left from rest to g e o f k =
+      let i = e ∙ ap pos o in
+      subst (λ t. Rounds ls p q t left from rest to) (sym o) (last (subst (λ t. Fillings ls p q t left from rest to) i f, inr (g, subst (λ t. Closed ls p q t to g) i k)))
 
   pub fillings-usable : (least left : ℤ) (from : List ℤ) (rest : ℤ) (to : List ℤ) → usable ls from ≡ true → pos 1 ≤ℤ least → Fillings ls p q least left from rest to → usable ls to ≡ true
   fillings-usable least left from rest to e h f =

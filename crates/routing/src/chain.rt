@@ -4,6 +4,7 @@ ghost use Prim.Native.Nat.{ℕ, _+_, _<_, _≤_};
 ghost use lib.IntN.{pos};
 ghost use lib.Signed.{_≤ℤ_};
 ghost use lib.ListN.{length, getD};
+ghost use Rattle.std.specs.Numbers.{minZ};
 ghost use Rattle.credit.specs.Plans.{booked};
 ghost use Rattle.routing.specs.Steps.{LeadsAt, RoomStep};
 ghost use Rattle.routing.specs.Fillings.{Over, Least};
@@ -40,6 +41,13 @@ pub(crate) fn places(lines: &[Line], plan: &[i32], least: i32, chain: &Chain) ->
     places
 }
 
+// The lesser of two numbers.
+fn lesser(a: i64, b: i64) -> i64
+    ensures { λ r. ⌜ r ≡ minZ a b ⌝ }
+{
+    if b < a { b } else { a }
+}
+
 // The least room of the steps, or what is still to send where that is less.
 pub(crate) fn least_room(
     lines: &[Line],
@@ -56,9 +64,7 @@ pub(crate) fn least_room(
     let mut least = i64::from(left);
     for i in 0..chain.steps {
         let room = room_from(&lines[places[i]], plan[places[i]], chain.members[i]);
-        if room < least {
-            least = room;
-        }
+        least = lesser(least, room);
     }
     least
 }

@@ -3,7 +3,7 @@ ghost use mathlib.Core.Path.{_≡_};
 ghost use mathlib.Core.Bool.{true};
 ghost use mathlib.Core.List.{List};
 ghost use Prim.Native.Nat.{ℕ, _+_, _<_, _≤_};
-ghost use lib.IntN.{pos, negℤ};
+ghost use lib.IntN.{pos, negℤ, _-ℤ_};
 ghost use lib.Signed.{_≤ℤ_};
 ghost use lib.ListN.{length, getD};
 ghost use Rattle.credit.specs.Plans.{booked, sentFrom};
@@ -95,6 +95,15 @@ pub(crate) struct Short {
     pub(crate) group: Group,
 }
 
+// What is still to send once x more is sent.
+fn remaining(left: i32, x: i32) -> i32
+    requires low { ⌜ pos 0 ≤ℤ x ⌝ }
+    requires high { ⌜ x ≤ℤ left ⌝ }
+    ensures { λ r. ⌜ r ≡ left -ℤ x ⌝ }
+{
+    left - x
+}
+
 // Fills chains from payer to payee as long as something is to send and there is one with enough room.
 pub(crate) fn round(
     lines: &[Line],
@@ -115,7 +124,7 @@ pub(crate) fn round(
     let mut left = amount;
     while left > 0 {
         match fill_next(lines, plan, payer, payee, least, left) {
-            Ok(x) => left -= x,
+            Ok(x) => left = remaining(left, x),
             Err(group) => return Some(Short { left, group }),
         }
     }

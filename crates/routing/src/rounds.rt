@@ -1,8 +1,10 @@
 // Rounds of fillings with a threshold that is halved down to 1.
 ghost use mathlib.Core.Path.{_≡_};
-ghost use mathlib.Core.Bool.{true};
+ghost use mathlib.Core.Bool.{true, cond};
 ghost use mathlib.Core.List.{_++_};
-ghost use Prim.Native.Nat.{ℕ, _<_, _≤_};
+ghost use Prim.Native.Nat.{_/_, _<_, _≤_};
+ghost use lib.Dec.{ltb};
+ghost use Rattle.std.specs.declared.option.Option.the-variants.{Some, None};
 ghost use lib.IntN.{pos};
 ghost use lib.Signed.{_≤ℤ_};
 ghost use lib.ListN.{length, take, drop};
@@ -13,6 +15,13 @@ use crate::fill::Short;
 use crate::fill::round;
 use credit::line::Line;
 use credit::refusal::Refusal;
+
+// Half the threshold, unless it is 1.
+fn halved(least: u32) -> Option<u32>
+    ensures { λ r. ⌜ r ≡ cond (ltb 1 least) (Some (least / 2)) None ⌝ }
+{
+    if least > 1 { Some(least / 2) } else { None }
+}
 
 // Fills chains with room of at least the threshold as long as something is to send and there is one, and so with half
 // the threshold, down to 1.
@@ -35,14 +44,14 @@ pub(crate) fn rounds(
 {
     let mut least = top;
     let mut left = amount;
-    while least > 1 {
-        match round(lines, plan, payer, payee, least as i32, left) {
-            None => return None,
-            Some(short) => left = short.left,
-        }
-        least /= 2;
+    loop {
+        let short = round(lines, plan, payer, payee, least as i32, left)?;
+        let Some(half) = halved(least) else {
+            return Some(short);
+        };
+        least = half;
+        left = short.left;
     }
-    round(lines, plan, payer, payee, 1, left)
 }
 
 // The first numbers of a plan.

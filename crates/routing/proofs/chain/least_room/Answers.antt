@@ -11,9 +11,8 @@ use Rattle.credit.specs.Net.{noLine}
 use Rattle.credit.specs.Plans.{booked, moved, roomFrom}
 use Rattle.credit.proofs.Booked.{booked-at}
 use Rattle.routing.specs.Fillings.{Least, roomAt}
-use Rattle.routing.proofs.Leasts.{least-none, least-less, least-same}
+use Rattle.routing.proofs.Leasts.{least-none, least-more}
 use Rattle.routing.proofs.chain.least_room.Needs as need
-use Rattle.routing.proofs.chain.least_room.Needs.{then-room-least, else-room-least}
 
 pub loop-i-holds : need.loop-i-holds
 loop-i-holds c =
@@ -39,11 +38,6 @@ loop-i-again c =
     let left = toZ w32 (ofZ w32 (c .args .left)) in
     let e : y ≡ roomAt (booked ls xs) cs ps i =
     c .room-from-room .ensures ∙ ap (λ t. roomFrom (moved (getD ls p noLine) t) m) (toZ-ofZ w32 _ fx) ∙ ap (λ t. roomFrom t m) (sym (booked-at ls xs p h k)) in
-    elim (c .if-room-least .came) [
-      | then-room-least w ↦
-          subst (λ t. Least (booked ls xs) cs ps (i + 1) left t) (sym (w .least-is ∙ toZ-ofZ w64 y fy))
-          (least-less (booked ls xs) cs ps left i _ y (c .loop-i .inv) e (simp toZ-ofZ at (w .if-room-least .taken)))
-      | else-room-least w ↦
-          subst (λ t. Least (booked ls xs) cs ps (i + 1) left t) (sym (w .least-is))
-          (least-same (booked ls xs) cs ps left i _ y (c .loop-i .inv) e (simp toZ-ofZ at (w .if-room-least .left)))
-    ]
+    let fr : SFits w64 (c .lesser-least .result) = search needs in
+    subst (λ t. Least (booked ls xs) cs ps (i + 1) left t) (sym (toZ-ofZ w64 _ fr ∙ simp toZ-ofZ at (c .lesser-least .ensures)))
+    (least-more (booked ls xs) cs ps left i _ y (c .loop-i .inv) e)

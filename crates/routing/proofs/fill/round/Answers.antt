@@ -15,17 +15,22 @@ use Rattle.routing.proofs.fill.round.Needs as need
 at-least : (least : ℤ) → SFits w32 least → pos 1 ≤ℤ least → pos 1 ≤ℤ toZ w32 (ofZ w32 least)
 at-least least f h = omega (arith, ints)
 
-fits-less : (left x : ℤ) → pos 1 ≤ℤ x → x ≤ℤ left → left ≤ℤ pos 1000000 → SFits w32 (left -ℤ toZ w32 (ofZ w32 x))
-fits-less left x h k l = omega (arith, ints)
-
-less : (left x : ℤ) → pos 1 ≤ℤ x → x ≤ℤ left → left ≤ℤ pos 1000000 → toZ w32 (ofZ w32 (left -ℤ toZ w32 (ofZ w32 x))) ≡ left -ℤ x
-less left x h k l = omega (arith, ints)
+less : (r left x : ℤ) → r ≡ left -ℤ toZ w32 (ofZ w32 x) → pos 1 ≤ℤ x → x ≤ℤ left → left ≤ℤ pos 1000000 → toZ w32 (ofZ w32 r) ≡ left -ℤ x
+less r left x e h k l = omega (arith, ints)
 
 falls-by : (left x : ℤ) → pos 1 ≤ℤ x → x ≤ℤ left → up (left -ℤ x) - down (left -ℤ x) < up left - down left
 falls-by left x h k = omega (arith, ints)
 
-falls : (left x : ℤ) → pos 1 ≤ℤ x → x ≤ℤ left → left ≤ℤ pos 1000000 → up (toZ w32 (ofZ w32 (left -ℤ toZ w32 (ofZ w32 x)))) - down (toZ w32 (ofZ w32 (left -ℤ toZ w32 (ofZ w32 x)))) < up left - down left
-falls left x h k l = subst (λ t. up t - down t < up left - down left) (sym (less left x h k l)) (falls-by left x h k)
+falls : (r left x : ℤ) → r ≡ left -ℤ toZ w32 (ofZ w32 x) → pos 1 ≤ℤ x → x ≤ℤ left → left ≤ℤ pos 1000000
+    → up (toZ w32 (ofZ w32 r)) - down (toZ w32 (ofZ w32 r)) < up left - down left
+falls r left x e h k l = subst (λ t. up t - down t < up left - down left) (sym (less r left x e h k l)) (falls-by left x h k)
+
+-- a part as it is passed
+some-passed : (left x : ℤ) → pos 1 ≤ℤ x → x ≤ℤ left → left ≤ℤ pos 1000000 → pos 0 ≤ℤ toZ w32 (ofZ w32 x)
+some-passed left x h k l = omega (arith, ints)
+
+most-passed : (left x : ℤ) → pos 1 ≤ℤ x → x ≤ℤ left → left ≤ℤ pos 1000000 → toZ w32 (ofZ w32 x) ≤ℤ left
+most-passed left x h k l = omega (arith, ints)
 
 small : (left n : ℤ) → SFits w32 n → left ≤ℤ toZ w32 (ofZ w32 n) → n ≤ℤ pos 1000000 → left ≤ℤ pos 1000000
 small left n f h k = omega (arith, ints)
@@ -33,11 +38,13 @@ small left n f h k = omega (arith, ints)
 pub loop-left-holds : need.loop-left-holds
 loop-left-holds c = (none, c .pre .usable, omega (arith, ints), omega (arith, ints))
 
-pub sub-left : need.sub-left
-sub-left c =
+pub remaining-left-requires : need.remaining-left-requires
+remaining-left-requires c κs =
     let f = c .in-Ok .ensures tt in
     let s = fills-some _ _ _ _ _ _ _ _ f (at-least (c .args .least) (c .fits .least) (c .pre .least)) in
-    fits-less _ (c .in-Ok .x) s (fills-most _ _ _ _ _ _ _ _ f) (small _ (c .args .amount) (c .fits .amount) (c .loop-left .inv .3) (c .pre .small))
+    let m = fills-most _ _ _ _ _ _ _ _ f in
+    let k = small _ (c .args .amount) (c .fits .amount) (c .loop-left .inv .3) (c .pre .small) in
+    record { low = some-passed _ (c .in-Ok .x) s m k; high = most-passed _ (c .in-Ok .x) s m k }
 
 pub loop-left-less : need.loop-left-less
 loop-left-less c =
@@ -45,7 +52,7 @@ loop-left-less c =
     let s = fills-some _ _ _ _ _ _ _ _ f (at-least (c .args .least) (c .fits .least) (c .pre .least)) in
     let m = fills-most _ _ _ _ _ _ _ _ f in
     let k = small _ (c .args .amount) (c .fits .amount) (c .loop-left .inv .3) (c .pre .small) in
-    falls _ (c .in-Ok .x) s m k
+    falls (c .remaining-left .result) _ (c .in-Ok .x) (c .remaining-left .ensures) s m k
 
 pub loop-left-again : need.loop-left-again
 loop-left-again c =
@@ -54,7 +61,7 @@ loop-left-again c =
     let s = fills-some _ _ _ _ _ _ _ _ f h in
     let m = fills-most _ _ _ _ _ _ _ _ f in
     let k = small _ (c .args .amount) (c .fits .amount) (c .loop-left .inv .3) (c .pre .small) in
-    let e = less _ (c .in-Ok .x) s m k in
+    let e = less (c .remaining-left .result) _ (c .in-Ok .x) (c .remaining-left .ensures) s m k in
     let least = toZ w32 (ofZ w32 (c .args .least)) in
     let amount = toZ w32 (ofZ w32 (c .args .amount)) in (
       subst (λ t. Fillings (c .args .lines .now) (c .args .payer) (c .args .payee) least amount (c .args .plan .now) t (c .fill-next .last .plan)) (sym e)
