@@ -116,10 +116,10 @@ rounded u v w hu hv hw (x ∷ (y ∷ (z ∷ rest))) c r = go rest r
         absurd (eqb-false x k (last .0) (sym back))
 
 -- 2 owes 3 on every ring
-through : (a b c : ℕ) → Round a b c → on 2 3 (steps (a ∷ b ∷ c ∷ [])) ≡ true
-through a b c (inl e) = subst₂ (λ (x y : ℕ). on 2 3 (steps (a ∷ x ∷ y ∷ [])) ≡ true) (sym (e .1)) (sym (e .2)) (step-later 2 3 (a, 2) ((2, 3) ∷ (3, a) ∷ []) refl)
-through a b c (inr (inl e)) = subst₂ (λ (x y : ℕ). on 2 3 (steps (x ∷ y ∷ c ∷ [])) ≡ true) (sym (e .0)) (sym (e .1)) refl
-through a b c (inr (inr e)) = subst₂ (λ (x y : ℕ). on 2 3 (steps (x ∷ b ∷ y ∷ [])) ≡ true) (sym (e .0)) (sym (e .2)) (step-later 2 3 (3, b) ((b, 2) ∷ (2, 3) ∷ []) (step-later 2 3 (b, 2) ((2, 3) ∷ []) refl))
+through : (i j k : ℕ) → Round i j k → on 2 3 (steps (i ∷ j ∷ k ∷ [])) ≡ true
+through i j k (inl e) = subst₂ (λ (x y : ℕ). on 2 3 (steps (i ∷ x ∷ y ∷ [])) ≡ true) (sym (e .1)) (sym (e .2)) (step-later 2 3 (i, 2) ((2, 3) ∷ (3, i) ∷ []) refl)
+through i j k (inr (inl e)) = subst₂ (λ (x y : ℕ). on 2 3 (steps (x ∷ y ∷ k ∷ [])) ≡ true) (sym (e .0)) (sym (e .1)) refl
+through i j k (inr (inr e)) = subst₂ (λ (x y : ℕ). on 2 3 (steps (x ∷ j ∷ y ∷ [])) ≡ true) (sym (e .0)) (sym (e .2)) (step-later 2 3 (3, j) ((j, 2) ∷ (2, 3) ∷ []) (step-later 2 3 (j, 2) ((2, 3) ∷ []) refl))
 
 abbrev before : List Line
 before = three (pos 7) (pos 5) (pos 9)

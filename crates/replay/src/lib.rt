@@ -3,4 +3,6 @@ pub mod entry;
 pub mod replay;
 mod serve;
 pub mod sums;
+#[cfg(test)]
+mod tests;
 mod tokens;
