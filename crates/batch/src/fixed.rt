@@ -14,7 +14,7 @@ fn same(line: &[u8], text: &[u8]) -> bool
 }
 
 // The form that a fixed text names.
-pub fn fixed(line: &[u8]) -> Option<Form>
+pub(crate) fn fixed(line: &[u8]) -> Option<Form>
     ensures { λ r. ⌜ r ≡ fixedOf (now (line .entry)) ⌝ }
 {
     if same(line, b"(tidy)") {
@@ -35,7 +35,7 @@ pub fn fixed(line: &[u8]) -> Option<Form>
 }
 
 // What stands before a last `)`.
-pub fn unclosed(bytes: &[u8]) -> Option<&[u8]>
+pub(crate) fn unclosed(bytes: &[u8]) -> Option<&[u8]>
     ensures { λ r. ⌜ mapped now r ≡ closed (now (bytes .entry)) ⌝ }
 {
     let n = bytes.len();
@@ -49,7 +49,7 @@ pub fn unclosed(bytes: &[u8]) -> Option<&[u8]>
 }
 
 // What stands after the word, where the bytes begin with it.
-pub fn past<'a>(bytes: &'a [u8], word: &[u8]) -> Option<&'a [u8]>
+pub(crate) fn past<'a>(bytes: &'a [u8], word: &[u8]) -> Option<&'a [u8]>
     ensures { λ r. ⌜ mapped now r ≡ after (now (word .entry)) (now (bytes .entry)) ⌝ }
 {
     bytes.strip_prefix(word)

@@ -44,7 +44,7 @@ fn numbers<const N: usize>(body: &[u8]) -> Option<[u32; N]>
 }
 
 // The numbers of a form, after its word and one space.
-pub fn parts<const N: usize>(rest: &[u8]) -> Result<[u32; N], Refusal>
+pub(crate) fn parts<const N: usize>(rest: &[u8]) -> Result<[u32; N], Refusal>
     ensures { λ r. ⌜ r ≡ partsOf N (now (rest .entry)) ⌝ }
 {
     let Some(body) = unclosed(rest) else {

@@ -6,7 +6,7 @@ ghost use Rattle.batch.specs.Numbers.{numeralOf, readOn};
 ghost use Rattle.batch.specs.Pieces.{reach};
 
 // How many bytes stand before the first `stop`; all of them where there is none.
-pub fn find(bytes: &[u8], stop: u8) -> usize
+pub(crate) fn find(bytes: &[u8], stop: u8) -> usize
     ensures value { λ r. ⌜ r ≡ reach stop (now (bytes .entry)) ⌝ }
     ensures within { λ r. ⌜ r ≤ length (now (bytes .entry)) ⌝ }
 {
@@ -33,7 +33,7 @@ fn digits(part: &[u8]) -> Option<u32>
 }
 
 // The number that a part writes: 1 to 7 digits with no leading zero, or `0`.
-pub fn number(part: &[u8]) -> Option<u32>
+pub(crate) fn number(part: &[u8]) -> Option<u32>
     ensures { λ r. ⌜ r ≡ numeralOf (now (part .entry)) ⌝ }
 {
     if part.is_empty() || part.len() > 7 {

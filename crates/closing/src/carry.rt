@@ -24,7 +24,7 @@ fn try_out<R: Router>(ledger: &mut Ledger, router: &mut R, payer: u32, payee: u3
 }
 
 // Carries out one form.
-pub fn carry<R: Router + Picks>(ledger: &mut Ledger, router: &mut R, plan: &mut [i32; 256], form: Form) -> Answer
+pub(crate) fn carry<R: Router + Picks>(ledger: &mut Ledger, router: &mut R, plan: &mut [i32; 256], form: Form) -> Answer
     ensures serves { λ r. ⌜ Serves (stateOf (now (ledger .entry))) form r (stateOf (now (ledger .exit))) ⌝ }
     ensures picks { λ _. ⌜ Picking form (picked (now (router .exit))) ⌝ }
 {

@@ -86,7 +86,7 @@ fn abandon_all(ledger: &mut Ledger, marks: &mut Marks, sheet: &mut Vec<SheetLine
 }
 
 // Closes a batch that is past its door.
-pub fn close_open<R: Router + Picks>(ledger: &mut Ledger, router: &mut R, batch: &[u8], sheet: &mut Vec<SheetLine>)
+pub(crate) fn close_open<R: Router + Picks>(ledger: &mut Ledger, router: &mut R, batch: &[u8], sheet: &mut Vec<SheetLine>)
     requires fair { ⌜ Fair (stateOf (now ledger)) [] ⌝ }
     requires empty { ⌜ vec-items (now sheet) ≡ [] ⌝ }
     requires places { ⌜ length (now batch) + 329 ≤ vec-cap (now sheet) ⌝ }

@@ -9,4 +9,4 @@ pub struct Marks {
     ghost few: { depth ≤ 8 },
 }
 
-pub mod stack;
+pub(crate) mod stack;

@@ -12,7 +12,7 @@ use crate::marks::Marks;
 use ledger::call::Answer;
 
 // What an answer is on the sheet.
-pub fn printed(line: usize, answer: Answer) -> SheetLine
+pub(crate) fn printed(line: usize, answer: Answer) -> SheetLine
     ensures { λ r. ⌜ r ≡ lineOf line answer ⌝ }
 {
     match answer {
@@ -26,7 +26,7 @@ pub fn printed(line: usize, answer: Answer) -> SheetLine
 }
 
 // Whether an answer ends the batch.
-pub fn ends(answer: Answer) -> bool
+pub(crate) fn ends(answer: Answer) -> bool
     ensures { λ r. ⌜ r ≡ endsBatch answer ⌝ }
 {
     match answer {
@@ -45,7 +45,7 @@ fn accepted(answer: Answer) -> bool
 }
 
 // Keeps a mark for each open group once a form is carried out.
-pub fn mark(marks: &mut Marks, form: Form, answer: Answer, line: usize)
+pub(crate) fn mark(marks: &mut Marks, form: Form, answer: Answer, line: usize)
     requires { ⌜ (form ≡ All → isAccepted answer ≡ true → length (marksOf (now marks)) < 8) ⌝ }
     ensures { λ _. ⌜ marksOf (now (marks .exit)) ≡ marksAfter form answer line (marksOf (now (marks .entry))) ⌝ }
 {

@@ -79,7 +79,7 @@ fn add_debts(sheet: &mut Vec<SheetLine>, lines: &[Line])
 }
 
 // Adds the statement: net positions, debts, and the end.
-pub fn add_statement(sheet: &mut Vec<SheetLine>, lines: &[Line], nets: &[i32; 64])
+pub(crate) fn add_statement(sheet: &mut Vec<SheetLine>, lines: &[Line], nets: &[i32; 64])
     requires places { ⌜ vec-len (now sheet) + 65 + length (now lines) ≤ vec-cap (now sheet) ⌝ }
     requires values { ⌜ now nets ≡ netTable (now lines) ⌝ }
     ensures items { λ _. ⌜ vec-items (now (sheet .exit)) ≡ vec-items (now (sheet .entry)) ++ statement (now (lines .entry)) ⌝ }

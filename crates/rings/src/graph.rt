@@ -24,7 +24,7 @@ pub struct DebtGraph {
 
 impl DebtGraph {
     // The graph of the debts on these lines.
-    pub fn new(lines: &[Line]) -> DebtGraph
+    pub(crate) fn new(lines: &[Line]) -> DebtGraph
         ensures sound { λ r. ⌜ ((m n : ℕ) → reaches (r .rows) m n ≡ true → DebtStep (now (lines .entry)) m n) ⌝ }
         ensures complete { λ r. ⌜ ((m n : ℕ) → m < 64 → n < 64 → DebtStep (now (lines .entry)) m n → reaches (r .rows) m n ≡ true) ⌝ }
     {
@@ -61,7 +61,7 @@ fn add_debt(rows: &mut Rows, line: Line)
 
 // A shortest chain from debtors to creditors, or a group that owes nobody outside it; None where start or goal is no
 // member.
-pub fn chain_of_debts(lines: &[Line], start: u32, goal: u32) -> Option<Reach>
+pub(crate) fn chain_of_debts(lines: &[Line], start: u32, goal: u32) -> Option<Reach>
     ensures { λ r. ⌜ Searched (DebtStep (now (lines .entry))) start goal r ⌝ }
 {
     search(&DebtGraph::new(lines), start, goal)

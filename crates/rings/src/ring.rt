@@ -130,7 +130,7 @@ fn part(test: bool, amount: i32) -> i32
 }
 
 // Lowers each debt on the ring that a chain of debts closes to by the least of them, and answers by how much.
-pub fn cancel(lines: &mut [Line], chain: Chain) -> i32
+pub(crate) fn cancel(lines: &mut [Line], chain: Chain) -> i32
     requires rounds { ⌜ Rounds (now lines) (chain .members) (chain .steps) ⌝ }
     requires bounds { ⌜ every bounded (now lines) ≡ true ⌝ }
     requires pairs { ⌜ distinct (now lines) ≡ true ⌝ }

@@ -10,7 +10,7 @@ use credit::refusal::Refusal;
 
 impl Draft {
     // An empty draft.
-    pub fn new() -> Self
+    pub(crate) fn new() -> Self
         ensures { λ r. ⌜ written r ≡ [] ⌝ }
     {
         Draft {
@@ -20,7 +20,7 @@ impl Draft {
     }
 
     // One byte more.
-    pub fn byte(&mut self, b: u8)
+    pub(crate) fn byte(&mut self, b: u8)
         ensures { λ _. ⌜ Adds (written (now (self .entry))) (b ∷ []) (written (now (self .exit))) ⌝ }
     {
         if self.len < MAX_LINE {
@@ -30,7 +30,7 @@ impl Draft {
         }
     }
 
-    pub fn text(&mut self, text: &[u8])
+    pub(crate) fn text(&mut self, text: &[u8])
         ensures { λ _. ⌜ Adds (written (now (self .entry))) (now (text .entry)) (written (now (self .exit))) ⌝ }
     {
         for b in text {
@@ -39,7 +39,7 @@ impl Draft {
     }
 
     // A number in decimal digits.
-    pub fn number(&mut self, n: u64)
+    pub(crate) fn number(&mut self, n: u64)
         ensures { λ _. ⌜ Adds (written (now (self .entry))) (decimal n) (written (now (self .exit))) ⌝ }
     {
         if n < 10 {
@@ -51,7 +51,7 @@ impl Draft {
     }
 
     // A number with a sign where it is negative.
-    pub fn signed(&mut self, z: i32)
+    pub(crate) fn signed(&mut self, z: i32)
         ensures { λ _. ⌜ Adds (written (now (self .entry))) (signed z) (written (now (self .exit))) ⌝ }
     {
         let size = z.unsigned_abs() as u64;
@@ -64,7 +64,7 @@ impl Draft {
     }
 
     // Writes the draft into the buffer, unless the buffer is too short.
-    pub fn copy_to(&self, buffer: &mut [u8]) -> Result<usize, Refusal>
+    pub(crate) fn copy_to(&self, buffer: &mut [u8]) -> Result<usize, Refusal>
         ensures value { λ r. ⌜ r ≡ answerOf (written (now (self .entry))) (now (buffer .entry)) ⌝ }
         ensures after { λ _. ⌜ now (buffer .exit) ≡ filledBy (written (now (self .entry))) (now (buffer .entry)) ⌝ }
     {

@@ -9,7 +9,7 @@ use crate::marks::Marks;
 
 impl Marks {
     // No group is open.
-    pub fn new() -> Self
+    pub(crate) fn new() -> Self
         ensures { λ r. ⌜ marksOf r ≡ [] ⌝ }
     {
         Marks {
@@ -19,7 +19,7 @@ impl Marks {
     }
 
     // A group begins at a line.
-    pub fn push(&mut self, line: usize)
+    pub(crate) fn push(&mut self, line: usize)
         requires { ⌜ length (marksOf (now self)) < 8 ⌝ }
         ensures { λ _. ⌜ marksOf (now (self .exit)) ≡ line ∷ marksOf (now (self .entry)) ⌝ }
     {
@@ -28,7 +28,7 @@ impl Marks {
     }
 
     // The inmost group is closed; the line at which it began.
-    pub fn pop(&mut self) -> Option<usize>
+    pub(crate) fn pop(&mut self) -> Option<usize>
         ensures { λ r. ⌜ BySome r ((marksOf (now (self .entry)) ≡ []) × (marksOf (now (self .exit)) ≡ [])) (λ line. marksOf (now (self .entry)) ≡ line ∷ marksOf (now (self .exit))) ⌝ }
     {
         if self.depth == 0 {
