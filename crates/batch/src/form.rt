@@ -26,7 +26,7 @@ pub enum Form {
     Close,
 }
 
-// A router: direct first over breadth, over scaling, or over kept over scaling.
+// The routers that a batch picks from: direct first over breadth, scaling, and kept over scaling.
 #[derive(Clone, Copy, Debug, PartialEq, Eq)]
 pub enum Choice {
     Breadth,

@@ -5,15 +5,15 @@ use batch::form::Choice;
 use crate::picking::Picks;
 use credit::line::Line;
 use credit::refusal::Refusal;
-use routing::breadth::Breadth;
-use routing::breadth::BreadthRouter;
+use filling::breadth::Breadth;
+use filling::breadth::BreadthRouter;
 use routing::direct::Direct;
 use routing::direct::DirectRouter;
 use routing::kept::Kept;
 use routing::kept::KeptRouter;
 use routing::router::Router;
-use routing::scaling::Scaling;
-use routing::scaling::ScalingRouter;
+use filling::scaling::Scaling;
+use filling::scaling::ScalingRouter;
 
 // Direct first over breadth, scaling, and kept over scaling.
 #[derive(Drop)]

@@ -3,10 +3,10 @@ use crate::entry::Entry;
 use crate::replay::close_twice;
 use ledger::call::Answer;
 use ledger::call::Call;
-use routing::breadth::Breadth;
-use routing::breadth::BreadthRouter;
-use routing::scaling::Scaling;
-use routing::scaling::ScalingRouter;
+use filling::breadth::Breadth;
+use filling::breadth::BreadthRouter;
+use filling::scaling::Scaling;
+use filling::scaling::ScalingRouter;
 use std::test::*;
 
 // A short code of an answer; a refusal has its number.

@@ -3,9 +3,3 @@ pub mod Passing
 pub mod Shares
 pub mod Directly
 pub mod Memories
-pub mod Along
-pub mod Leasts
-pub mod Filled
-pub mod Rowing
-pub mod Rounding
-pub mod Settling

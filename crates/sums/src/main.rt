@@ -6,13 +6,13 @@ use ledger::reservation::Reservation;
 use ledger::reservation::Unbooked;
 use ledger::state::Ledger;
 use members::group::Group;
-use routing::breadth::Breadth;
-use routing::breadth::BreadthRouter;
+use filling::breadth::Breadth;
+use filling::breadth::BreadthRouter;
 use routing::direct::Direct;
 use routing::direct::DirectRouter;
 use routing::router::Router;
-use routing::scaling::Scaling;
-use routing::scaling::ScalingRouter;
+use filling::scaling::Scaling;
+use filling::scaling::ScalingRouter;
 use std::error::AnyError;
 
 // What a call answered.
