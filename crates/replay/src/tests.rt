@@ -136,8 +136,8 @@ fn routers_do_not_matter(rt: LibcRuntime) -> Result<(), Fail> {
         101,
     ];
     let two = close_twice(rt.alloc(), &calls, &mut Breadth, &mut Scaling)?;
-    check(coded(&two.one, &codes))?;
-    check(coded(&two.other, &codes))?;
-    check_eq(last_net(&two.one), 65)?;
-    check_eq(last_net(&two.other), 65)
+    check(coded(&two.one.entries, &codes))?;
+    check(coded(&two.other.entries, &codes))?;
+    check_eq(last_net(&two.one.entries), 65)?;
+    check_eq(last_net(&two.other.entries), 65)
 }
