@@ -1,4 +1,6 @@
 // Batches: the reader of their forms, and the sheet that answers them.
+#![tactic(auto)]
+
 pub mod compose;
 mod draft;
 mod fixed;

@@ -48,7 +48,9 @@ fn close_into<R: Router + Picks>(
 )
     requires empty { sheet.old.items ≡ [] }
     requires places { min (length batch.now) 32768 + 329 ≤ vec_capacity sheet.old }
-    ensures { Closing (state_of ledger.old) batch.now sheet.new.items (state_of ledger.new) }
+    ensures closes { Closes (state_of ledger.old) batch.now sheet.new.items (state_of ledger.new) }
+    ensures settled { Settled (state_of ledger.old) (state_of ledger.new) }
+    ensures closing { Closing (state_of ledger.old) batch.now sheet.new.items (state_of ledger.new) }
 {
     match door(ledger, batch) {
         Err(refusal) => sheet.push_reserved(SheetLine::Refused { line: 0, refusal }),

@@ -1,4 +1,6 @@
 // A batch closed on a ledger: its door, its forms carried out, its end and its statement.
+#![tactic(auto)]
+
 pub mod batches;
 mod carry;
 mod close;

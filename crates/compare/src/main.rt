@@ -1,4 +1,6 @@
 // Closes one batch under two routers, and shows what they share and where they differ.
+#![tactic(auto)]
+
 use crate::script::{Script, read};
 use crate::tables::{print_calls, print_lines, print_nets};
 use closing::batches::LONGEST_BATCH;

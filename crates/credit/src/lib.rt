@@ -1,4 +1,6 @@
 // Lines of mutual credit, net positions, rooms, plans and flows, and the refusals with their numbers.
+#![tactic(auto)]
+
 pub mod booking;
 pub mod laws;
 pub mod line;

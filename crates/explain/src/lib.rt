@@ -1,4 +1,6 @@
 // Sheets as sentences that a shop can read.
+#![tactic(auto)]
+
 mod asks;
 mod denial;
 mod forms;

@@ -1,4 +1,6 @@
 // The ledger: lines, open groups of payments, the standing reservation, and the calls on them.
+#![tactic(auto)]
+
 mod checks;
 pub mod lines;
 pub mod payments;

@@ -1,4 +1,6 @@
 // Closes batches one after the other on one ledger, and prints the sheet of each, or its sentences.
+#![tactic(auto)]
+
 use anyhow::anyhow;
 use batch::text::sheet_text;
 use closing::batches::LONGEST_BATCH;

@@ -9,7 +9,7 @@ use members::group::Group;
 // A shortest chain of steps from the start to the goal, or a group that shows that there is none; None where start or
 // goal is no member.
 pub fn search<G: Graph>(graph: &G, start: u32, goal: u32) -> Option<Reach>
-    ensures { Searched (steps graph.now) start goal result }
+    ensures { Searched (G.steps graph.now) start goal result }
 {
     if start > 63 || goal > 63 {
         return None;
@@ -21,7 +21,7 @@ pub fn search<G: Graph>(graph: &G, start: u32, goal: u32) -> Option<Reach>
 fn shortest<G: Graph>(graph: &G, start: u32, goal: u32) -> Reach
     requires from { start < 64 }
     requires to { goal < 64 }
-    ensures { Answered (steps graph.now) start goal result }
+    ensures { Answered (G.steps graph.now) start goal result }
 {
     let mut before = [0u32; 64];
     if start == goal {
@@ -52,7 +52,7 @@ fn spread<G: Graph>(
 ) -> Option<Group>
     requires member { goal < 64 }
     requires members { Members before.old }
-    ensures { Spread (steps graph.now) frontier.bits seen.bits goal before.old before.new result }
+    ensures { Spread (G.steps graph.now) frontier.bits seen.bits goal before.old before.new result }
 {
     let mut next = Group::empty();
     let mut rest = frontier.walk();

@@ -1,4 +1,6 @@
 // One breadth-first search over every graph on the members that tells whom a member reaches in one step.
+#![tactic(auto)]
+
 pub mod breadth_first;
 pub mod graph;
 pub mod reach;

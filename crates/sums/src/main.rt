@@ -1,4 +1,6 @@
 // Worked sums on small networks, run through the library and printed.
+#![tactic(auto)]
+
 use calls::call::Closing;
 use credit::refusal::Refusal;
 use filling::breadth::Breadth;

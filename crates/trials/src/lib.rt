@@ -1,5 +1,7 @@
 // Examples of the library crates, run through their public calls. A crate's tests are proved together with the crate once
 // more; here they are proved alone.
+#![tactic(auto)]
+
 #[cfg(test)]
 mod closings;
 #[cfg(test)]

@@ -6,8 +6,8 @@ use Rattle.credit.proofs.Sums.{sum_more}
 use Rattle.credit.proofs.Bounds.{share_within}
 use Rattle.credit.proofs.net.total_share.Goals as goal
 
-pub overflow-add-sum : goal.overflow-add-sum
-overflow-add-sum c =
+pub overflow_add-sum : goal.overflow_add-sum
+overflow_add-sum c =
     let s = share_within c.args.member c.args.lines.now c.loop-line.line-index c.requires.bounds c.loop-line-test.true in
     omega (arith, ints)
 

@@ -12,5 +12,5 @@ returns-in-Some c =
     let l = c.in-Some.ensures in
     let g = c.args.group.now.bits in
     let m = c.in-Some.member in
-    took g c.without.result.bits m l.holds l.none-below
+    took g c.without.result.bits m l.holds l.none_below
     (λ n. c.without.ensures n ∙ ap (λ x. inside g n && not x) (sym (single_in m n l.small))) l.small

@@ -16,8 +16,8 @@ pub returns-then-next-eq0 : goal.returns-then-next-eq0
 returns-then-next-eq0 g c =
     closes (g.G.Graph.steps c.args.graph.now) c.args.start c.args.goal _ _ _ _ c.loop-next.invariant _ _ c.in-Some.ensures c.if-next-eq0.true
 
-pub overflow-add-level : goal.overflow-add-level
-overflow-add-level g c =
+pub overflow_add-level : goal.overflow_add-level
+overflow_add-level g c =
     let f = fits (g.G.Graph.steps c.args.graph.now) c.args.start c.args.goal _ _ _ _ c.loop-next.invariant c.requires.to in
     omega (arith, f)
 
@@ -31,8 +31,8 @@ loop-next-preserved g c =
     grows (g.G.Graph.steps c.args.graph.now) c.args.start c.args.goal _ _ _ _ c.loop-next.invariant _ _ _ c.in-Some.ensures
     (omega arith) c.if-next-eq0.false c.union-seen.ensures
 
-pub overflow-add-level-2 : goal.overflow-add-level-2
-overflow-add-level-2 g c =
+pub overflow_add-level-2 : goal.overflow_add-level-2
+overflow_add-level-2 g c =
     let f = fits (g.G.Graph.steps c.args.graph.now) c.args.start c.args.goal _ _ _ _ c.loop-next.invariant c.requires.to in
     omega (arith, f)
 
@@ -41,11 +41,11 @@ trace-requires-2 g c =
     record {
       member = c.requires.to;
       short = fits (g.G.Graph.steps c.args.graph.now) c.args.start c.args.goal _ _ _ _ c.loop-next.invariant c.requires.to;
-      members = c.in-default.ensures.small;
+      members = c.in_default.ensures.small;
     }
 
 pub returns : goal.returns
 returns g c =
     let S = g.G.Graph.steps c.args.graph.now in
     subst (λ k. IsShortest S c.args.start c.args.goal c.trace-2.result.members k) (sym c.trace-2.ensures.count)
-    (arrives S c.args.start c.args.goal _ _ _ _ c.loop-next.invariant _ c.in-default.ensures c.requires.to _ c.trace-2.ensures.traced)
+    (arrives S c.args.start c.args.goal _ _ _ _ c.loop-next.invariant _ c.in_default.ensures c.requires.to _ c.trace-2.ensures.traced)

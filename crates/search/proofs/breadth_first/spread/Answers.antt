@@ -32,7 +32,7 @@ pub frontier-preserved : goal.frontier-preserved
 frontier-preserved g c =
     let S = g.G.Graph.steps c.args.graph.now in
     let f = c.walk-rest.result.rest.bits in let s = c.args.seen.bits in let t = c.args.goal in let b = c.args.before.now in
-    turned S f s t b _ _ _ _ _ c.in-default-next.ensures.steps.0 (c.loop-next.invariant f b (begun g (goal.at.frontier-preserved g c).After-walk-fresh))
+    turned S f s t b _ _ _ _ _ c.in_default-next.ensures.steps.0 (c.loop-next.invariant f b (begun g (goal.at.frontier-preserved g c).After-walk-fresh))
 
 pub loop-next-preserved : goal.loop-next-preserved
 loop-next-preserved g c =
@@ -43,14 +43,14 @@ loop-next-preserved g c =
     c.next-in-loop-next.new.self.rest.bits c.in-Some-next.n c.with-next.result.bits
     c.in-Some.ensures.steps.small c.in-Some-next.ensures.steps c.if-n-goal.false c.with-next.ensures
 
-pub returns-in-default : goal.returns-in-default
-returns-in-default g c =
+pub returns-in_default : goal.returns-in_default
+returns-in_default g c =
     let S = g.G.Graph.steps c.args.graph.now in
     let s = c.args.seen.bits in let t = c.args.goal in let b = c.args.before.now in
     let w = c.walk-rest.result.rest.bits in
     subst (λ f. Grown S f.bits s t b c.frontier.before c.frontier.next.bits) c.walk-rest.ensures
     (ends S w s t b c.frontier.next.bits 0 c.frontier.before
-    (subst (λ x. Spreading S w s t b x c.frontier.next.bits 0 0 c.frontier.before) c.in-default.ensures.steps.0 c.frontier.invariant))
+    (subst (λ x. Spreading S w s t b x c.frontier.next.bits 0 0 c.frontier.before) c.in_default.ensures.steps.0 c.frontier.invariant))
 
 pub returns-then-n-goal : goal.returns-then-n-goal
 returns-then-n-goal g c =

@@ -8,6 +8,6 @@ use Rattle.credit.proofs.line.Line.room_from.Goals as goal
 pub returns-then-self-from : goal.returns-then-self-from
 returns-then-self-from c =
     let l = c.args.self.now in
-    let f : SFits w64 c.room-onward.result = search rules in
-    to_z-of_z w64 _ f ∙ c.room-onward.ensures ∙ ap (λ t. room_onward (moved l t)) (to_z-of_z w32 _ c.ranges.planned)
+    let f : SFits w64 c.room_onward.result = search rules in
+    to_z-of_z w64 _ f ∙ c.room_onward.ensures ∙ ap (λ t. room_onward (moved l t)) (to_z-of_z w32 _ c.ranges.planned)
     ∙ sym (from_onward (moved l c.args.planned) c.args.from c.if-self-from.true)
