@@ -9,17 +9,17 @@ use Rattle.batch.proofs.compose.line.Goals as goal
 pub returns-in-Done : goal.returns-in-Done
 returns-in-Done c =
     let line : c.in-Done.n < 2 ^ 64 = search rules in
-    rw c.in-Done.is record { text = c.word-number.ensures; fits = simp length-append (omega (arith, short.number c.in-Done.n line)) }
+    rw c.in-Done.is record { text = c.word_number.ensures; fits = simp length-append (omega (arith, short.number c.in-Done.n line)) }
 
 pub returns-in-Kept : goal.returns-in-Kept
 returns-in-Kept c =
     let line : c.in-Kept.n < 2 ^ 64 = search rules in
-    rw c.in-Kept.is record { text = c.word-number-in-Kept.ensures; fits = simp length-append (omega (arith, short.number c.in-Kept.n line)) }
+    rw c.in-Kept.is record { text = c.word_number-in-Kept.ensures; fits = simp length-append (omega (arith, short.number c.in-Kept.n line)) }
 
 pub returns-in-Undone : goal.returns-in-Undone
 returns-in-Undone c =
     let line : c.in-Undone.n < 2 ^ 64 = search rules in
-    rw c.in-Undone.is record { text = c.word-number-in-Undone.ensures; fits = simp length-append (omega (arith, short.number c.in-Undone.n line)) }
+    rw c.in-Undone.is record { text = c.word_number-in-Undone.ensures; fits = simp length-append (omega (arith, short.number c.in-Undone.n line)) }
 
 pub returns-in-Refused : goal.returns-in-Refused
 returns-in-Refused c =

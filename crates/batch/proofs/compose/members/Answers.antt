@@ -16,7 +16,7 @@ returns c =
     let w = written c.args.d.now in
     let v = written c.loop-member.d in
     let none = c.in-None.ensures.steps.2 in
-    let whole = ap (λ x. x.rest) c.into-iter-member-iterator.ensures.into-iter-gives ∙ c.walk-member-items.ensures in
+    let whole = ap (λ x. x.rest) c.into_iter-member-iterator.ensures.into_iter_gives ∙ c.walk-member-items.ensures in
     record {
       is = joined_none v (short c.loop-member.d.bytes c.loop-member.d.len c.loop-member.d.within)
           ∙ ap (λ ms. joined v (listed ms)) (sym none) ∙ c.loop-member.invariant ∙ ap (λ g. joined w (listed (members_of g.bits))) whole;

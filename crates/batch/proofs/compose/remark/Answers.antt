@@ -17,10 +17,10 @@ returns-in-WantOfRoom c =
       fits = simp length-append (omega (arith, shorts.integer room f, shorts.group c.in-WantOfRoom.group.bits));
     }
 
-pub returns-in-default : goal.returns-in-default
-returns-in-default c =
+pub returns-in_default : goal.returns-in_default
+returns-in_default c =
     let d = c.args.d.now in
-    let none = plain c.args.refusal c.in-default.not-WantOfRoom in
+    let none = plain c.args.refusal c.in_default.not-WantOfRoom in
     record {
       text = record { is = joined_none (written d) (short d.bytes d.len d.within) ∙ ap (joined (written d)) (sym none) };
       fits = omega (arith, ap length none);

@@ -7,4 +7,4 @@ pub returns : goal.returns
 returns c =
     let w = c.args.word.now in
     let s = c.args.bytes.now in
-    after_is c.strip-prefix.result w s (strip_prefix_is Decides-eqb s w c.strip-prefix.result c.strip-prefix.ensures.cases)
+    after_is c.strip_prefix.result w s (strip_prefix_is Decides-eqb s w c.strip_prefix.result c.strip_prefix.ensures.cases)

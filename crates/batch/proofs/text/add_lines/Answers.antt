@@ -9,8 +9,8 @@ loop-line-preserved c =
     let sheet = c.args.sheet.now in
     let i = c.loop-line.line-index in
     piece_more sheet_text sheet i (vec_items c.args.text.now ++ sheet_text sheet) (Done 0)
-    (vec_items c.loop-line.text) (line_text (get_or sheet i (Done 0))) (vec_items c.add-line.new.text)
-    c.loop-line-test.true refl c.in-ok-add-line.ensures c.loop-line.invariant
+    (vec_items c.loop-line.text) (line_text (get_or sheet i (Done 0))) (vec_items c.add_line.new.text)
+    c.loop-line-test.true refl c.in_ok-add_line.ensures c.loop-line.invariant
 
 pub returns : goal.returns
 returns c =

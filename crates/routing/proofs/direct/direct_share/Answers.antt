@@ -7,33 +7,33 @@ use Rattle.credit.proofs.Sends.{roomy_at}
 use Rattle.routing.proofs.Passing.{passed_facts}
 use Rattle.routing.proofs.Shares.{first_at}
 use Rattle.routing.proofs.direct.direct_share.Goals as goal
-use Rattle.routing.proofs.direct.direct_share.Goals.{In-ok-place}
+use Rattle.routing.proofs.direct.direct_share.Goals.{In_ok-place}
 
 -- the line of that place is among the lines, and there are few
-at : (c : In-ok-place) → (c.in-ok-place.place < length c.args.lines.now) × (length c.args.lines.now ≤ 256) × (length c.args.lines.now ≤ length c.args.plan.now)
+at : (c : In_ok-place) → (c.in_ok-place.place < length c.args.lines.now) × (length c.args.lines.now ≤ 256) × (length c.args.lines.now ≤ length c.args.plan.now)
 at c =
     let f = passed_facts c.args.lines.now c.args.payer c.args.payee c.args.amount c.args.plan.now c.requires in
-    ((first_at c.args.payer c.args.payee c.args.lines.now c.in-ok-place.place (sym c.in-ok-place.ensures)).0, f.few, f.long)
+    ((first_at c.args.payer c.args.payee c.args.lines.now c.in_ok-place.place (sym c.in_ok-place.ensures)).0, f.few, f.long)
 
-pub offset-bounds-lines-place : goal.offset-bounds-lines-place
-offset-bounds-lines-place c = let a = at c in search rules
+pub offset_bounds-lines-place : goal.offset_bounds-lines-place
+offset_bounds-lines-place c = let a = at c in search rules
 
 pub bounds-lines-place : goal.bounds-lines-place
 bounds-lines-place c = (at c).0
 
-pub offset-bounds-plan-place : goal.offset-bounds-plan-place
-offset-bounds-plan-place c = let a = at (goal.at.offset-bounds-plan-place c).In-ok-place in search rules
+pub offset_bounds-plan-place : goal.offset_bounds-plan-place
+offset_bounds-plan-place c = let a = at (goal.at.offset_bounds-plan-place c).In_ok-place in search rules
 
 pub bounds-plan-place : goal.bounds-plan-place
-bounds-plan-place c = let a = at (goal.at.bounds-plan-place c).In-ok-place in omega arith
+bounds-plan-place c = let a = at (goal.at.bounds-plan-place c).In_ok-place in omega arith
 
-pub share-on-requires : goal.share-on-requires
-share-on-requires c =
+pub share_on-requires : goal.share_on-requires
+share_on-requires c =
     let ls = c.args.lines.now in
     let xs = c.args.plan.now in
-    let i = c.in-ok-place.place in
+    let i = c.in_ok-place.place in
     let f = passed_facts ls c.args.payer c.args.payee c.args.amount xs c.requires in
-    let h = (first_at c.args.payer c.args.payee ls i (sym c.in-ok-place.ensures)).0 in
+    let h = (first_at c.args.payer c.args.payee ls i (sym c.in_ok-place.ensures)).0 in
     let k : i < length xs = omega (arith, f.long) in
     let x : SFits w32 (get_or xs i (pos 0)) = search rules in
     record {

@@ -18,7 +18,7 @@ returns-in-Some c =
     let q = c.args.payee in
     let n = c.args.amount in
     let gs = c.args.groups.now in
-    let i = c.loop-group.group_index in
+    let i = c.loop-group.group-index in
     let same = to_z-of_z w32 n c.ranges.amount in
     let word : (get_or gs i none).bits < 2 ^ 64 = search rules in
     let e = c.in-Some.ensures in
@@ -37,8 +37,8 @@ loop-group-preserved c =
     let q = c.args.payee in
     let n = to_z w32 (of_z w32 c.args.amount) in
     let gs = c.args.groups.now in
-    let i = c.loop-group.group_index in
-    let e : None ≡ refusal_by ls p q n xs (get_or gs i none) = c.in-default.ensures in
+    let i = c.loop-group.group-index in
+    let e : None ≡ refusal_by ls p q n xs (get_or gs i none) = c.in_default.ensures in
     ap (λ o. or_else o (recalled ls p q n xs (drop (i + 1) gs))) e
     ∙ sym (at_drop_more (recalled ls p q n xs) gs i none c.loop-group-test.true)
     ∙ c.loop-group.invariant
@@ -49,7 +49,7 @@ returns c =
     let xs = c.args.plan.now in
     let n = to_z w32 (of_z w32 c.args.amount) in
     record {
-      value = sym (at_drop_all (recalled ls c.args.payer c.args.payee n xs) c.args.groups.now c.loop-group.group_index (omega arith))
+      value = sym (at_drop_all (recalled ls c.args.payer c.args.payee n xs) c.args.groups.now c.loop-group.group-index (omega arith))
           ∙ c.loop-group.invariant ∙ ap (λ t. recalled ls c.args.payer c.args.payee t xs c.args.groups.now) (to_z-of_z w32 c.args.amount c.ranges.amount);
       finds = search rules;
     }

@@ -4,5 +4,5 @@ use Rattle.rings.proofs.graph.DebtGraph.new.Goals as goal
 
 pub loop-line-preserved : goal.loop-line-preserved
 loop-line-preserved c =
-    let e = c.add-debt.ensures in
-    gathered_more (reaches c.loop-line.rows) (reaches c.add-debt.new.rows) c.args.lines.now c.loop-line.line-index c.loop-line.invariant e.old e.new e.only
+    let e = c.add_debt.ensures in
+    gathered_more (reaches c.loop-line.rows) (reaches c.add_debt.new.rows) c.args.lines.now c.loop-line.line-index c.loop-line.invariant e.old e.new e.only

@@ -10,15 +10,15 @@ use Rattle.rings.proofs.ring.Ring.least.Goals as goal
 pub loop-line-init : goal.loop-line-init
 loop-line-init c = least_none (party c.args.self.now) c.args.lines.now _ refl
 
-pub least-on-least-requires : goal.least-on-least-requires
-least-on-least-requires c = record { table = c.requires.table; bounds = every_at bounded c.args.lines.now c.loop-line.line-index no_line c.requires.bounds c.loop-line-test.true }
+pub least_on-least-requires : goal.least_on-least-requires
+least_on-least-requires c = record { table = c.requires.table; bounds = every_at bounded c.args.lines.now c.loop-line.line-index no_line c.requires.bounds c.loop-line-test.true }
 
 pub loop-line-preserved : goal.loop-line-preserved
 loop-line-preserved c =
-    let g : SFits w32 c.least-on-least.result = search rules in
-    let e = c.least-on-least.ensures in
-    subst (λ (v : ℤ). Least (party c.args.self.now) c.args.lines.now (c.loop-line.line-index + 1) v) (sym (to_z-of_z w32 c.least-on-least.result g))
-    (least_more (party c.args.self.now) c.args.lines.now c.loop-line.line-index c.loop-line.least _ c.least-on-least.result c.loop-line.least_is (subst (λ (v : ℤ). Least (party c.args.self.now) c.args.lines.now c.loop-line.line-index v) c.loop-line.least_is c.loop-line.invariant) e.most e.under e.met)
+    let g : SFits w32 c.least_on-least.result = search rules in
+    let e = c.least_on-least.ensures in
+    subst (λ (v : ℤ). Least (party c.args.self.now) c.args.lines.now (c.loop-line.line-index + 1) v) (sym (to_z-of_z w32 c.least_on-least.result g))
+    (least_more (party c.args.self.now) c.args.lines.now c.loop-line.line-index c.loop-line.least _ c.least_on-least.result c.loop-line.least-is (subst (λ (v : ℤ). Least (party c.args.self.now) c.args.lines.now c.loop-line.line-index v) c.loop-line.least-is c.loop-line.invariant) e.most e.under e.met)
 
 pub returns : goal.returns
 returns c =

@@ -18,8 +18,8 @@ leads-requires-2 c =
     let f = bounded_facts c.args.line c.requires.bounds in
     record { table = c.requires.table; debtor = omega (arith, f.order, f.high); creditor = f.high }
 
-pub overflow-add-line : goal.overflow-add-line
-overflow-add-line c =
+pub overflow_add-line : goal.overflow_add-line
+overflow_add-line c =
     let f = bounded_facts c.args.line c.requires.bounds in
     let x : c.part.result ≡ only c.leads.result c.args.by = c.part.ensures ∙ ap (only c.leads.result) (to_z-of_z w32 c.args.by c.ranges.by) in
     let y : c.part-2.result ≡ only c.leads-2.result c.args.by = c.part-2.ensures ∙ ap (only c.leads-2.result) (to_z-of_z w32 c.args.by c.ranges.by) in

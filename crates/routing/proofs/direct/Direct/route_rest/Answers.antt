@@ -8,4 +8,4 @@ returns-in-Err g c =
     let e = Err c.in-Err.refusal in
     let left = c.route.new.plan in
     let r = subst (λ n. Routes c.args.lines.now c.args.payer c.args.payee n c.args.plan.now e left) (to_z-of_z w32 c.args.rest c.ranges.rest) c.in-Err.ensures in
-    (e, left, r, (c.widened.result, c.widened.ensures.wider, refl, c.take-back.ensures))
+    (e, left, r, (c.widened.result, c.widened.ensures.wider, refl, c.take_back.ensures))

@@ -14,15 +14,15 @@ put-requires g c =
     let f = passed_facts c.args.lines.now c.args.payer c.args.payee c.args.amount c.args.plan.now c.requires in
     (known c.args.lines.now c.args.plan.now c.args.payer c.args.payee c.args.amount c.in-Some.share f e).place
 
-pub overflow-sub-amount : goal.overflow-sub-amount
-overflow-sub-amount g c =
+pub overflow_sub-amount : goal.overflow_sub-amount
+overflow_sub-amount g c =
     let e = c.in-Some.ensures ∙ ap (λ t. direct_share c.args.lines.now c.args.payer c.args.payee t c.args.plan.now) (to_z-of_z w32 c.args.amount c.ranges.amount) in
     let f = passed_facts c.args.lines.now c.args.payer c.args.payee c.args.amount c.args.plan.now c.requires in
     let k = known c.args.lines.now c.args.plan.now c.args.payer c.args.payee c.args.amount c.in-Some.share f e in
     omega (arith, ints, k.low, k.amount, f.high)
 
-pub route-rest-requires : goal.route-rest-requires
-route-rest-requires g c =
+pub route_rest-requires : goal.route_rest-requires
+route_rest-requires g c =
     let ls = c.args.lines.now in
     let xs = c.args.plan.now in
     let p = c.args.payer in
@@ -51,15 +51,15 @@ returns-then-share-amount g c =
     let q = c.args.payee in
     let n = c.args.amount in
     let s = c.in-Some.share in
-    let r = c.route-rest.result in
-    let exit = c.route-rest.new.plan in
+    let r = c.route_rest.result in
+    let exit = c.route_rest.new.plan in
     let e = c.in-Some.ensures ∙ ap (λ t. direct_share ls p q t xs) (to_z-of_z w32 n c.ranges.amount) in
     let f = passed_facts ls p q n xs c.requires in
     let k = known ls xs p q n s f e in
     let b : to_z w32 (of_z w32 s.part) ≡ s.part = omega (arith, ints, k.low, k.amount, f.high) in
     let d : to_z w32 (of_z w32 (to_z w32 (of_z w32 n) -ℤ to_z w32 (of_z w32 s.part))) ≡ n -ℤ s.part = omega (arith, ints, k.low, k.amount, f.high) in
     let less : s.part <ℤ n = omega (arith, ints, c.if-share-amount.true) in
-    let t = subst (λ z. Handed ls p q (n -ℤ s.part) s z r exit) c.put.ensures (subst (λ z. Handed ls p q z s c.put.new.plan r exit) d c.route-rest.ensures) in
+    let t = subst (λ z. Handed ls p q (n -ℤ s.part) s z r exit) c.put.ensures (subst (λ z. Handed ls p q z s c.put.new.plan r exit) d c.route_rest.ensures) in
     let h = shared_rest ls xs p q n s r exit f e less t in
     record { finds = shared_finds ls xs p q n r exit f h; shared = h }
 
