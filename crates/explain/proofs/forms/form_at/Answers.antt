@@ -6,7 +6,7 @@ use Rattle.explain.proofs.forms.form_at.Goals as goal
 
 pub loop-step-init : goal.loop-step-init
 loop-step-init c =
-    (tt, tt, ap (λ r. form_at c.args.line (left r)) c.into-iter-step-iterator.ensures.into-iter-gives ∙ ap (form_at c.args.line) c.new-step-items.ensures)
+    (tt, tt, ap (λ r. form_at c.args.line (left r)) c.into_iter-step-iterator.ensures.into_iter_gives ∙ ap (form_at c.args.line) c.new-step-items.ensures)
 
 pub loop-step-preserved : goal.loop-step-preserved
 loop-step-preserved c =

@@ -5,7 +5,7 @@ use Rattle.explain.proofs.names.+names_on.Goals as goal
 
 pub returns-in-ok-write : goal.returns-in-ok-write
 returns-in-ok-write g t c =
-    name_more g.W.Write.write_str_gives c.args.f.now c.write-in-Some.new.self c.names-on.new.f
-    c.write-in-Some.result c.names-on.result c.args.member c.in-Some.next
+    name_more g.W.Write.write_str_gives c.args.f.now c.write-in-Some.new.self c.names_on.new.f
+    c.write-in-Some.result c.names_on.result c.args.member c.in-Some.next
     (members_of c.args.walk.rest.bits) (members_of c.next.new.self.rest.bits)
-    c.in-Some.ensures.steps.listed (ap is_ok c.in-ok-write.was) c.write-in-Some.ensures.writes c.names-on.ensures
+    c.in-Some.ensures.steps.listed (ap is_ok c.in-ok-write.was) c.write-in-Some.ensures.writes c.names_on.ensures

@@ -18,10 +18,10 @@ loop-line-preserved c =
     let i = c.loop-line.line-index in
     let x = get_or sheet i (Done 0) in
     piece_more tell sheet i (string_bytes c.args.text.now ++ tell sheet) (Done 0)
-    (string_bytes c.loop-line.text) (piece c.form-for.result x) (string_bytes c.add-sentence.new.text)
+    (string_bytes c.loop-line.text) (piece c.form_for.result x) (string_bytes c.add_sentence.new.text)
     c.loop-line-test.true
-    (ap (λ (o : Option Form). piece o x ++ tell (drop (i + 1) sheet)) (sym c.form-for.ensures))
-    c.in-ok-add-sentence.ensures c.loop-line.invariant
+    (ap (λ (o : Option Form). piece o x ++ tell (drop (i + 1) sheet)) (sym c.form_for.ensures))
+    c.in_ok-add_sentence.ensures c.loop-line.invariant
 
 pub returns : goal.returns
 returns c =

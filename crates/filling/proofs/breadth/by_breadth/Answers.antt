@@ -11,10 +11,10 @@ returns c =
     let xs = c.args.plan.now in
     let p = c.args.payer in
     let q = c.args.payee in
-    let r = c.route-by.result in
-    let to = c.route-by.new.plan in
+    let r = c.route_by.result in
+    let to = c.route_by.new.plan in
     let e = to_z-of_z w32 c.args.amount c.ranges.amount in
     record {
-      finds = subst (λ n. Finds ls p q n xs r to) e c.route-by.ensures.finds;
-      settles = settles_one ls p q c.args.amount xs r to (subst (λ n. Settles (Rounds ls p q 1 n xs) ls p q n xs r to) e c.route-by.ensures.settles);
+      finds = subst (λ n. Finds ls p q n xs r to) e c.route_by.ensures.finds;
+      settles = settles_one ls p q c.args.amount xs r to (subst (λ n. Settles (Rounds ls p q 1 n xs) ls p q n xs r to) e c.route_by.ensures.settles);
     }

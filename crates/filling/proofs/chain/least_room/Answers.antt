@@ -26,11 +26,11 @@ loop-i-preserved c =
     let h : p < length ls = c.requires.over i c.loop-i-test.true in
     let k : p < length xs = omega arith in
     let fx : SFits w32 (get_or xs p (pos 0)) = search rules in
-    let y = c.room-from-room.result in
+    let y = c.room_from-room.result in
     let fy : SFits w64 y = search rules in
     let left = to_z w32 (of_z w32 c.args.left) in
     let e : y ≡ room_at (booked ls xs) cs ps i =
-    c.room-from-room.ensures ∙ ap (λ t. room_from (moved (get_or ls p no_line) t) m) (to_z-of_z w32 _ fx) ∙ ap (λ t. room_from t m) (sym (booked_at ls xs p h k)) in
+    c.room_from-room.ensures ∙ ap (λ t. room_from (moved (get_or ls p no_line) t) m) (to_z-of_z w32 _ fx) ∙ ap (λ t. room_from t m) (sym (booked_at ls xs p h k)) in
     let fr : SFits w64 c.lesser-least.result = search rules in
     subst (λ t. Least (booked ls xs) cs ps (i + 1) left t) (sym (to_z-of_z w64 _ fr ∙ simp to_z-of_z at c.lesser-least.ensures))
     (least_more (booked ls xs) cs ps left i _ y c.loop-i.invariant e)

@@ -22,8 +22,8 @@ places-places-requires c =
       linked = λ i h. subst (λ t. RoomStep (booked ls xs) t (get_or cs i 0) (get_or cs (i + 1) 0)) (sym (to_z-of_z w32 _ c.ranges.least)) (c.requires.linked i h);
     }
 
-pub least-room-x-requires : goal.least-room-x-requires
-least-room-x-requires c =
+pub least_room-x-requires : goal.least_room-x-requires
+least_room-x-requires c =
     let ls = c.args.lines.now in
     let xs = c.args.plan.now in
     record {
@@ -41,11 +41,11 @@ send-requires c =
     let ps = c.places-places.result in
     let least = c.args.least in
     let left = c.args.left in
-    let r = c.least-room-x.result in
+    let r = c.least_room-x.result in
     let fl = c.ranges.least in
     let ft = c.ranges.left in
     let over : (i : ℕ) → i < k → Over (booked ls xs) least cs ps i = simp to_z-of_z at c.places-places.ensures in
-    let v : Least (booked ls xs) cs ps k left r = simp to_z-of_z at c.least-room-x.ensures in
+    let v : Least (booked ls xs) cs ps k left r = simp to_z-of_z at c.least_room-x.ensures in
     let low = least_some (booked ls xs) least cs ps k left r c.requires.least c.requires.some over v in
     let e = same r left low v.most c.requires.small in
     record {
@@ -66,11 +66,11 @@ returns c =
     let ps = c.places-places.result in
     let least = c.args.least in
     let left = c.args.left in
-    let r = c.least-room-x.result in
+    let r = c.least_room-x.result in
     let fl = c.ranges.least in
     let ft = c.ranges.left in
     let over : (i : ℕ) → i < k → Over (booked ls xs) least cs ps i = simp to_z-of_z at c.places-places.ensures in
-    let v : Least (booked ls xs) cs ps k left r = simp to_z-of_z at c.least-room-x.ensures in
+    let v : Least (booked ls xs) cs ps k left r = simp to_z-of_z at c.least_room-x.ensures in
     let low = least_some (booked ls xs) least cs ps k left r c.requires.least c.requires.some over v in
     let e = same r left low v.most c.requires.small in
     (ps, (over, subst (λ t. Least (booked ls xs) cs ps k left t) (sym e) v, c.send.ensures))

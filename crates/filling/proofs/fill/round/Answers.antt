@@ -57,7 +57,7 @@ loop-left-preserved c =
     let e = less c.remaining-left.result _ c.in-Ok.x c.remaining-left.ensures s m k in
     let least = to_z w32 (of_z w32 c.args.least) in
     let amount = to_z w32 (of_z w32 c.args.amount) in (
-      subst (λ t. Fillings c.args.lines.now c.args.payer c.args.payee least amount c.args.plan.now t c.fill-next.new.plan) (sym e)
+      subst (λ t. Fillings c.args.lines.now c.args.payer c.args.payee least amount c.args.plan.now t c.fill_next.new.plan) (sym e)
           (fills_more _ _ _ _ _ _ _ _ f amount c.args.plan.now c.loop-left.invariant.0),
       fills_usable _ _ _ _ _ _ _ _ f c.loop-left.invariant.1 h,
       subst (λ t. pos 0 ≤ℤ t) (sym e) (omega (arith, ints, s, m)),

@@ -7,8 +7,8 @@ use Rattle.filling.specs.Fillings.{sent_along}
 use Rattle.filling.proofs.Filled.{usable_facts, along_usable, number_bounds}
 use Rattle.filling.proofs.fill.send.Goals as goal
 
-pub offset-bounds-lines-p : goal.offset-bounds-lines-p
-offset-bounds-lines-p c =
+pub offset_bounds-lines-p : goal.offset_bounds-lines-p
+offset_bounds-lines-p c =
     let u = usable_facts c.args.lines.now c.args.plan.now c.requires.usable in
     let o = (c.requires.over c.loop-i.i c.loop-i-test.true).0 in
     omega (arith, o, length_booked c.args.lines.now c.args.plan.now)
@@ -18,20 +18,20 @@ bounds-lines-p c =
     let o = (c.requires.over c.loop-i.i c.loop-i-test.true).0 in
     omega (arith, o, length_booked c.args.lines.now c.args.plan.now)
 
-pub offset-bounds-plan-p : goal.offset-bounds-plan-p
-offset-bounds-plan-p c =
+pub offset_bounds-plan-p : goal.offset_bounds-plan-p
+offset_bounds-plan-p c =
     let u = usable_facts c.args.lines.now c.args.plan.now c.requires.usable in
     let o = (c.requires.over c.loop-i.i c.loop-i-test.true).0 in
     omega (arith, o, length_booked c.args.lines.now c.args.plan.now)
 
-pub slice-copy-out·planned-after : goal.slice-copy-out·planned-after
-slice-copy-out·planned-after c =
+pub slice_copy_out-planned_after : goal.slice_copy_out-planned_after
+slice_copy_out-planned_after c =
     let u = usable_facts c.args.lines.now c.args.plan.now c.requires.usable in
     let o = (c.requires.over c.loop-i.i c.loop-i-test.true).0 in
     omega (arith, o, length_booked c.args.lines.now c.args.plan.now)
 
-pub planned-after-requires : goal.planned-after-requires
-planned-after-requires c =
+pub planned_after-requires : goal.planned_after-requires
+planned_after-requires c =
     let ls = c.args.lines.now in
     let xs = c.args.plan.now in
     let cs = c.args.chain.now.members in
@@ -50,8 +50,8 @@ planned-after-requires c =
     let high : v ≤ℤ pos 2000000 = b.1 in
     record { low = (omega (arith, ints), omega (arith, ints)); high = (omega (arith, ints), omega (arith, ints)) }
 
-pub offset-bounds-plan-p-in-loop-i : goal.offset-bounds-plan-p-in-loop-i
-offset-bounds-plan-p-in-loop-i c =
+pub offset_bounds-plan-p-in-loop-i : goal.offset_bounds-plan-p-in-loop-i
+offset_bounds-plan-p-in-loop-i c =
     let u = usable_facts c.args.lines.now c.args.plan.now c.requires.usable in
     let o = (c.requires.over c.loop-i.i c.loop-i-test.true).0 in
     omega (arith, o, length_booked c.args.lines.now c.args.plan.now)
@@ -74,9 +74,9 @@ loop-i-preserved c =
     let l = get_or ls p no_line in
     let m = get_or cs i 0 in
     let lp = c.loop-i.plan in
-    let fr : SFits w32 c.planned-after.result = search rules in
+    let fr : SFits w32 c.planned_after.result = search rules in
     let fv : SFits w32 (get_or lp p (pos 0)) = search rules in
-    ap (λ t. set lp p t) (to_z-of_z w32 _ fr ∙ c.planned-after.ensures ∙ ap (λ t. sent_from l m t x) (to_z-of_z w32 _ fv))
+    ap (λ t. set lp p t) (to_z-of_z w32 _ fr ∙ c.planned_after.ensures ∙ ap (λ t. sent_from l m t x) (to_z-of_z w32 _ fv))
     ∙ ap (λ t. set t p (sent_from l m (get_or t p (pos 0)) x)) c.loop-i.invariant
     ∙ ap (λ t. sent_along ls cs ps x t xs) (sym (add-one i))
 

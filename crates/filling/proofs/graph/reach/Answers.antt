@@ -9,7 +9,7 @@ use Rattle.filling.proofs.graph.reach.Goals as goal
 pub returns : goal.returns
 returns c =
     let fl = c.ranges.least in
-    let sound = simp to_z-of_z at c.room-graph-rows.ensures.sound in
-    let complete = simp to_z-of_z at c.room-graph-rows.ensures.complete in
-    answered_same (λ m n. reaches c.room-graph-rows.result m n ≡ true) (RoomStep (booked c.args.lines.now c.args.plan.now) c.args.least)
+    let sound = simp to_z-of_z at c.room_graph-rows.ensures.sound in
+    let complete = simp to_z-of_z at c.room_graph-rows.ensures.complete in
+    answered_same (λ m n. reaches c.room_graph-rows.result m n ≡ true) (RoomStep (booked c.args.lines.now c.args.plan.now) c.args.least)
     (λ m n hm hn h. sound m n h) (λ m n hm hn h. complete m n h) c.args.payer c.args.payee c.in-Some.reach c.in-Some.ensures.2

@@ -11,8 +11,8 @@ use Rattle.filling.proofs.Filled.{usable_facts}
 use Rattle.filling.proofs.Rowing.{any_leads, any_more, any_step, step_any}
 use Rattle.filling.proofs.graph.room_graph.Goals as goal
 
-pub add-line-requires : goal.add-line-requires
-add-line-requires c = every_at bounded c.args.lines.now c.loop-i.i no_line (usable_facts c.args.lines.now c.args.plan.now c.requires).sound c.loop-i-test.true
+pub add_line-requires : goal.add_line-requires
+add_line-requires c = every_at bounded c.args.lines.now c.loop-i.i no_line (usable_facts c.args.lines.now c.args.plan.now c.requires).sound c.loop-i-test.true
 
 pub loop-i-preserved : goal.loop-i-preserved
 loop-i-preserved c m n =
@@ -24,7 +24,7 @@ loop-i-preserved c m n =
     let h = c.loop-i-test.true in
     let k : i < length xs = omega (arith, u.long) in
     let fx : SFits w32 (get_or xs i (pos 0)) = search rules in
-    c.add-line.ensures m n
+    c.add_line.ensures m n
     ∙ ap (λ t. t || leads (moved (get_or ls i no_line) (to_z w32 (of_z w32 (get_or xs i (pos 0))))) least m n) (c.loop-i.invariant m n)
     ∙ ap (λ t. any_leads (take i (booked ls xs)) least m n || leads (moved (get_or ls i no_line) t) least m n) (to_z-of_z w32 _ fx)
     ∙ ap (λ t. any_leads (take i (booked ls xs)) least m n || leads t least m n) (sym (booked_at ls xs i h k))

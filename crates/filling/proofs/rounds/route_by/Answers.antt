@@ -32,7 +32,7 @@ returns-in-Some c =
     let r = subst (λ t. Rounds ls c.args.payer c.args.payee c.args.top t xs s.left to) (to_z-of_z w32 _ c.ranges.amount) f.0 in
     let w : s.group.bits < 2 ^ 64 = search rules in
     let e = ap (λ t. WantOfRoom s.group t) (counted n s.left c.ranges.amount p.high f.1 f.2) in
-    let back = c.put-back.ensures ∙ taken_back ls c.args.payer c.args.payee n xs p c.args.top s.left to c.copied-before.result r c.copied-before.ensures in
+    let back = c.put_back.ensures ∙ taken_back ls c.args.payer c.args.payee n xs p c.args.top s.left to c.copied-before.result r c.copied-before.ensures in
     record {
       finds = (s.group, n -ℤ s.left, e, all_tight ls c.args.payer c.args.payee n xs p c.args.top s.left to s.group.bits w r f.1 f.3, back);
       settles = (s.left, to, s.group, r, f.3, e, back);
