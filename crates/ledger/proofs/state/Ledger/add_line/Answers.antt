@@ -16,44 +16,33 @@ use Rattle.ledger.proofs.state.Ledger.add_line.Goals as goal
 pushed : (ks ls : List Line) (l : Line) (x y : ℕ) (t u : ℤ) → SFits w32 t → SFits w32 u → ks ≡ ls ++ l ∷ [] → l ≡ new_line x y (to_z w32 (of_z w32 t)) (to_z w32 (of_z w32 u)) → ks ≡ ls ++ new_line x y t u ∷ []
 pushed ks ls l x y t u ft fu e h = e ∙ ap (λ v. ls ++ v ∷ []) (h ∙ ap₂ (new_line x y) (to_z-of_z w32 t ft) (to_z-of_z w32 u fu))
 
-pub push-reserved-requires : goal.push-reserved-requires
-push-reserved-requires c =
+pub push_reserved-requires : goal.push_reserved-requires
+push_reserved-requires c =
     let s = c.args.self.now in
     let o = openable (state_of s) c.args.first c.args.second c.args.trust c.args.back c.requires in
     omega (arith, o.few, s.wide, s.lines.ok.0)
 
-pub invariant-of-self : goal.invariant-of-self
-invariant-of-self c =
+pub invariant_of-self : goal.invariant_of-self
+invariant_of-self c =
     let s = c.args.self.now in
     let ls = vec_items s.lines in
     let x = c.args.first in
     let y = c.args.second in
     let t = c.args.trust in
     let u = c.args.back in
-    let ks = vec_items c.push-reserved.new.self in
+    let ks = vec_items c.push_reserved.new.self in
     let o = openable (state_of s) x y t u c.requires in
-    let e : ks ≡ ls ++ new_line x y t u ∷ [] = pushed ks ls c.new-line.result x y t u c.ranges.trust c.ranges.back c.push-reserved.ensures.items c.new-line.ensures in (
-      omega (arith, o.few, c.push-reserved.ensures.len, s.lines.ok.0),
-      (
-        omega (arith, c.push-reserved.ensures.capacity, s.wide),
-        (
-          ap (every bounded) e ∙ opened_bounds (state_of s) x y t u o s.bounds,
-          (
-            ap distinct e ∙ opened_pairs (state_of s) x y t u o s.pairs,
-            (
-              s.shallow,
-              (
-                s.deep,
-                (
-                  ap (restorable ks) (open_none (length ls) (vec_items s.savepoints) o.none),
-                  (s.proper, (λ g. unstrained_none s.standing g ks o.vacant, tt)),
-                ),
-              ),
-            ),
-          ),
-        ),
-      ),
-    )
+    let e : ks ≡ ls ++ new_line x y t u ∷ [] = pushed ks ls c.new_line.result x y t u c.ranges.trust c.ranges.back c.push_reserved.ensures.items c.new_line.ensures in record {
+      few = omega (arith, o.few, c.push_reserved.ensures.len, s.lines.ok.0);
+      wide = omega (arith, c.push_reserved.ensures.capacity, s.wide);
+      bounds = ap (every bounded) e ∙ opened_bounds (state_of s) x y t u o s.bounds;
+      pairs = ap distinct e ∙ opened_pairs (state_of s) x y t u o s.pairs;
+      shallow = s.shallow;
+      deep = s.deep;
+      kept = ap (restorable ks) (open_none (length ls) (vec_items s.savepoints) o.none);
+      proper = s.proper;
+      fitting = λ g. unstrained_none s.standing g ks o.vacant;
+    }
 
 pub returns : goal.returns
 returns c =
@@ -63,7 +52,7 @@ returns c =
     let y = c.args.second in
     let t = c.args.trust in
     let u = c.args.back in
-    let ks = vec_items c.push-reserved.new.self in
+    let ks = vec_items c.push_reserved.new.self in
     opened_shown ls ks (vec_items s.savepoints) s.standing x y t u
-    (pushed ks ls c.new-line.result x y t u c.ranges.trust c.ranges.back c.push-reserved.ensures.items c.new-line.ensures)
+    (pushed ks ls c.new_line.result x y t u c.ranges.trust c.ranges.back c.push_reserved.ensures.items c.new_line.ensures)
     (openable (state_of s) x y t u c.requires).none

@@ -26,49 +26,32 @@ kept ls ks ws e d b t =
     let k = tidied_keeps ks ws d b (subst (λ xs. Tidied xs ws) e t) in
     (k, sym (length_shape ws) ∙ ap length k.shapes ∙ length_shape ks)
 
-pub invariant-of-self : goal.invariant-of-self
-invariant-of-self c =
+pub invariant_of-self : goal.invariant_of-self
+invariant_of-self c =
     let s = c.args.self.now in
     let ls = vec_items s.lines in
     let ws = c.tidy.new.lines in
-    let k = kept _ ls ws c.deref-mut.ensures.value s.pairs s.bounds c.tidy.ensures.tidied in
-    let e : vec_items (with_items s.lines ws) ≡ ws = over s.lines ws k.1 in (
-      s.few,
-      (
-        s.wide,
-        (
-          ap (every bounded) e ∙ k.0.bounds,
-          (
-            ap distinct e ∙ k.0.pairs,
-            (
-              s.shallow,
-              (
-                s.deep,
-                (
-                  ap (λ t. restorable t (vec_items s.savepoints)) e ∙ restorable_alike ws ls _ (λ ds. with_debts_alike ws ls ds k.0.shapes) ∙ s.kept,
-                  (
-                    s.proper,
-                    (
-                      λ g. ap (strained s.standing g) e
-                          ∙ unstrained_alike s.standing g ls ws
-                          (room_alike g ls ws (ends_bounded ls s.bounds) (ends_bounded ws k.0.bounds) (sym k.0.shapes) (λ m h. sym (k.0.nets m)))
-                          (s.fitting g),
-                      tt,
-                    ),
-                  ),
-                ),
-              ),
-            ),
-          ),
-        ),
-      ),
-    )
+    let k = kept _ ls ws c.deref_mut.ensures.value s.pairs s.bounds c.tidy.ensures.tidied in
+    let e : vec_items (with_items s.lines ws) ≡ ws = over s.lines ws k.1 in record {
+      few = s.few;
+      wide = s.wide;
+      bounds = ap (every bounded) e ∙ k.0.bounds;
+      pairs = ap distinct e ∙ k.0.pairs;
+      shallow = s.shallow;
+      deep = s.deep;
+      kept = ap (λ t. restorable t (vec_items s.savepoints)) e ∙ restorable_alike ws ls _ (λ ds. with_debts_alike ws ls ds k.0.shapes) ∙ s.kept;
+      proper = s.proper;
+      fitting = λ g. ap (strained s.standing g) e
+          ∙ unstrained_alike s.standing g ls ws
+          (room_alike g ls ws (ends_bounded ls s.bounds) (ends_bounded ws k.0.bounds) (sym k.0.shapes) (λ m h. sym (k.0.nets m)))
+          (s.fitting g);
+    }
 
 pub returns : goal.returns
 returns c =
     let s = c.args.self.now in
     let ls = vec_items s.lines in
     let ws = c.tidy.new.lines in
-    let k = kept _ ls ws c.deref-mut.ensures.value s.pairs s.bounds c.tidy.ensures.tidied in
+    let k = kept _ ls ws c.deref_mut.ensures.value s.pairs s.bounds c.tidy.ensures.tidied in
     let e : vec_items (with_items s.lines ws) ≡ ws = over s.lines ws k.1 in
-    (ws, subst (λ xs. Tidied xs ws) c.deref-mut.ensures.value c.tidy.ensures.tidied, shown_over ls _ ws (vec_items s.savepoints) s.standing e k.1)
+    (ws, subst (λ xs. Tidied xs ws) c.deref_mut.ensures.value c.tidy.ensures.tidied, shown_over ls _ ws (vec_items s.savepoints) s.standing e k.1)

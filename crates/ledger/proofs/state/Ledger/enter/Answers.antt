@@ -20,36 +20,25 @@ over v ws ks xs h k =
     let e : ws ≡ booked (vec_items v) xs = k ∙ ap (λ ls. booked ls xs) h in
     with_items_is v ws (omega (arith, ap length e, length_booked (vec_items v) xs, v.ok.0)) ∙ e
 
-pub invariant-of-self : goal.invariant-of-self
-invariant-of-self c =
+pub invariant_of-self : goal.invariant_of-self
+invariant_of-self c =
     let s = c.args.self.now in
     let ls = vec_items s.lines in
     let xs = c.args.plan.now in
-    let e : vec_items (with_items s.lines c.book.new.lines) ≡ booked ls xs = over s.lines c.book.new.lines _ xs c.deref-mut.ensures.value c.book.ensures in (
-      s.few,
-      (
-        s.wide,
-        (
-          ap (every bounded) e ∙ bounded_booked ls xs s.bounds c.requires.fit,
-          (
-            ap distinct e ∙ distinct_booked ls xs ∙ s.pairs,
-            (
-              s.shallow,
-              (
-                s.deep,
-                (
-                  ap (λ t. restorable t (vec_items s.savepoints)) e ∙ restorable_alike (booked ls xs) ls _ (with_debts_booked ls xs) ∙ s.kept,
-                  (s.proper, (λ g. unstrained_none s.standing g _ c.requires.vacant, tt)),
-                ),
-              ),
-            ),
-          ),
-        ),
-      ),
-    )
+    let e : vec_items (with_items s.lines c.book.new.lines) ≡ booked ls xs = over s.lines c.book.new.lines _ xs c.deref_mut.ensures.value c.book.ensures in record {
+      few = s.few;
+      wide = s.wide;
+      bounds = ap (every bounded) e ∙ bounded_booked ls xs s.bounds c.requires.fit;
+      pairs = ap distinct e ∙ distinct_booked ls xs ∙ s.pairs;
+      shallow = s.shallow;
+      deep = s.deep;
+      kept = ap (λ t. restorable t (vec_items s.savepoints)) e ∙ restorable_alike (booked ls xs) ls _ (with_debts_booked ls xs) ∙ s.kept;
+      proper = s.proper;
+      fitting = λ g. unstrained_none s.standing g _ c.requires.vacant;
+    }
 
 pub returns : goal.returns
 returns c =
     let s = c.args.self.now in
     let xs = c.args.plan.now in
-    booked_shown (vec_items s.lines) _ (vec_items s.savepoints) s.standing xs (over s.lines c.book.new.lines _ xs c.deref-mut.ensures.value c.book.ensures)
+    booked_shown (vec_items s.lines) _ (vec_items s.savepoints) s.standing xs (over s.lines c.book.new.lines _ xs c.deref_mut.ensures.value c.book.ensures)

@@ -4,31 +4,20 @@ use Rattle.ledger.proofs.Restores.{restorable_rest}
 use Rattle.ledger.proofs.Closes.{kept_pop}
 use Rattle.ledger.proofs.state.Ledger.keep_inmost.Goals as goal
 
-pub invariant-of-self : goal.invariant-of-self
-invariant-of-self c =
+pub invariant_of-self : goal.invariant_of-self
+invariant_of-self c =
     let s = c.args.self.now in
-    let ls = vec_items s.lines in (
-      s.few,
-      (
-        s.wide,
-        (
-          s.bounds,
-          (
-            s.pairs,
-            (
-              omega (arith, c.pop.ensures.len, s.shallow),
-              (
-                omega (arith, c.pop.ensures.capacity, s.deep),
-                (
-                  restorable_rest ls (vec_items s.savepoints) _ _ c.pop.ensures.items s.kept,
-                  (s.proper, (s.fitting, tt)),
-                ),
-              ),
-            ),
-          ),
-        ),
-      ),
-    )
+    let ls = vec_items s.lines in record {
+      few = s.few;
+      wide = s.wide;
+      bounds = s.bounds;
+      pairs = s.pairs;
+      shallow = omega (arith, c.pop.ensures.len, s.shallow);
+      deep = omega (arith, c.pop.ensures.capacity, s.deep);
+      kept = restorable_rest ls (vec_items s.savepoints) _ _ c.pop.ensures.items s.kept;
+      proper = s.proper;
+      fitting = s.fitting;
+    }
 
 pub returns : goal.returns
 returns c =

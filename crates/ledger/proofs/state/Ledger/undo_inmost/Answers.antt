@@ -20,38 +20,27 @@ over v ws ds e = with_items_is v ws (omega (arith, ap length e, with_debts_lengt
 over_read : (v : Vec Line Global) (ws ks : List Line) (ds : List ℤ) → ks ≡ vec_items v → ws ≡ with_debts ks ds → vec_items (with_items v ws) ≡ with_debts (vec_items v) ds
 over_read v ws ks ds h e = over v ws ds (e ∙ ap (λ ls. with_debts ls ds) h)
 
-pub invariant-of-self : goal.invariant-of-self
-invariant-of-self c =
+pub invariant_of-self : goal.invariant_of-self
+invariant_of-self c =
     let s = c.args.self.now in
     let ls = vec_items s.lines in
     let sp = c.in-Some.savepoint in
     let ds = sp.debts in
-    let e : vec_items (with_items s.lines c.restore.new.lines) ≡ with_debts ls ds = over_read s.lines c.restore.new.lines _ ds c.deref-mut.ensures.value c.restore.ensures in
-    let p = restorable_pop ls _ sp (ap (restorable ls) (sym c.in-Some.ensures.items) ∙ s.kept) in (
-      s.few,
-      (
-        s.wide,
-        (
-          ap (every bounded) e ∙ p.1,
-          (
-            ap distinct e ∙ distinct_with_debts ls ds ∙ s.pairs,
-            (
-              omega (arith, c.pop.ensures.len, s.shallow),
-              (
-                omega (arith, c.pop.ensures.capacity, s.deep),
-                (
-                  ap (λ t. restorable t (vec_items c.pop.new.self)) e ∙ restorable_alike (with_debts ls ds) ls _ (with_debts_twice ls ds) ∙ p.0,
-                  (s.proper, (λ g. unstrained_none s.standing g _ c.requires, tt)),
-                ),
-              ),
-            ),
-          ),
-        ),
-      ),
-    )
+    let e : vec_items (with_items s.lines c.restore.new.lines) ≡ with_debts ls ds = over_read s.lines c.restore.new.lines _ ds c.deref_mut.ensures.value c.restore.ensures in
+    let p = restorable_pop ls _ sp (ap (restorable ls) (sym c.in-Some.ensures.items) ∙ s.kept) in record {
+      few = s.few;
+      wide = s.wide;
+      bounds = ap (every bounded) e ∙ p.1;
+      pairs = ap distinct e ∙ distinct_with_debts ls ds ∙ s.pairs;
+      shallow = omega (arith, c.pop.ensures.len, s.shallow);
+      deep = omega (arith, c.pop.ensures.capacity, s.deep);
+      kept = ap (λ t. restorable t (vec_items c.pop.new.self)) e ∙ restorable_alike (with_debts ls ds) ls _ (with_debts_twice ls ds) ∙ p.0;
+      proper = s.proper;
+      fitting = λ g. unstrained_none s.standing g _ c.requires;
+    }
 
 pub returns-in-Some : goal.returns-in-Some
 returns-in-Some c =
     let s = c.args.self.now in
     undone_pop (vec_items s.lines) _ (vec_items s.savepoints) _ s.standing c.in-Some.savepoint c.in-Some.ensures.items
-    (over_read s.lines c.restore.new.lines _ c.in-Some.savepoint.debts c.deref-mut.ensures.value c.restore.ensures)
+    (over_read s.lines c.restore.new.lines _ c.in-Some.savepoint.debts c.deref_mut.ensures.value c.restore.ensures)
