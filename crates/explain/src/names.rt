@@ -13,7 +13,7 @@ pub struct Names(pub Group);
 
 // A member and those that the walk has yet to give: each after a comma, the last after `and`.
 fn names_on<W: fmt::Write>(member: u32, mut walk: Walk, f: &mut fmt::Formatter<W>) -> fmt::Result
-    ensures { WritesOnOk write_str_gives f.old result (names_on member (members_of walk.rest.bits)) f.new }
+    ensures { WritesOnOk W.write_str_gives f.old result (names_on member (members_of walk.rest.bits)) f.new }
 {
     match walk.next() {
         None => write!(f, " and {member}"),
