@@ -42,8 +42,8 @@ pub(crate) fn carry<R: Router + Picks>(
     form: Form,
 ) -> Answer
     ensures serves { Serves (state_of ledger.old) form result (state_of ledger.new) }
-    ensures picks { Picking form (picked router.new) }
-    ensures next { NextPick form (picked router.old) (picked router.new) }
+    ensures picks { Picking form (R.picked router.new) }
+    ensures next { NextPick form (R.picked router.old) (R.picked router.new) }
 {
     match form {
         Form::Line {

@@ -49,7 +49,7 @@ fn carry_line<R: Router + Picks>(
     requires { Fair (state_of ledger.old) (marks_of marks.old) }
     ensures stepped { Stepped step.form step.line (at (state_of ledger.old) (marks_of marks.old)) result.line result.over (at (state_of ledger.new) (marks_of marks.new)) }
     ensures fair { Fair (state_of ledger.new) (marks_of marks.new) }
-    ensures picks { PicksAt step.form (picked router.old) (picked router.new) }
+    ensures picks { PicksAt step.form (R.picked router.old) (R.picked router.new) }
 {
     match step.form {
         Err(refusal) => Outcome {

@@ -21,8 +21,8 @@ loop-line-preserved c =
     let top : all ≡ l ∷ ms = c.in-Some.ensures in
     let did = abandoned s t (closed_or c.abandon.result) l ms all top c.abandon.ensures.answer c.loop-line.invariant.1 in (
       λ after to h. c.loop-line.invariant.0 after to
-          (ends_on l ms all s t to (vec_items c.loop-line.sheet) (vec_items c.push-reserved.new.self) after top did.0 c.push-reserved.ensures.items h),
+          (ends_on l ms all s t to (vec_items c.loop-line.sheet) (vec_items c.push_reserved.new.self) after top did.0 c.push_reserved.ensures.items h),
       did.1,
-      omega (arith, c.push-reserved.ensures.len, ap length top),
-      c.push-reserved.ensures.capacity ∙ c.loop-line.invariant.3,
+      omega (arith, c.push_reserved.ensures.len, ap length top),
+      c.push_reserved.ensures.capacity ∙ c.loop-line.invariant.3,
     )

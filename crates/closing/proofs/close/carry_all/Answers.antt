@@ -20,40 +20,40 @@ loop-step-init g c = (
 pub loop-step-preserved : goal.loop-step-preserved
 loop-step-preserved g c =
     let from = at (state_of c.loop-step.ledger) (marks_of c.loop-step.marks) in
-    let to' = at (state_of c.carry-line-outcome.new.ledger) (marks_of c.carry-line-outcome.new.marks) in
-    let x = c.carry-line-outcome.result.line in
+    let to' = at (state_of c.carry_line-outcome.new.ledger) (marks_of c.carry_line-outcome.new.marks) in
+    let x = c.carry_line-outcome.result.line in
     let step = c.in-Some.step in
     let rest = left c.step.new.self in
     let e : left c.loop-step.reader ≡ step ∷ rest =
     head_some (left c.loop-step.reader) step c.in-Some.ensures.value ∙ ap (λ ss. step ∷ ss) (sym c.step.ensures.after) in (
       λ more to h. subst (λ xs. Carries (left c.new-reader.result) (at (state_of c.args.ledger.now) (marks_of c.new-marks.result)) xs to)
-          (sym (ap (λ t. t ++ more) c.push-reserved.ensures.items ∙ append_assoc (vec_items c.loop-step.sheet) (x ∷ []) more))
-          (c.loop-step.invariant.0 (x ∷ more) to (carries_on (left c.loop-step.reader) rest step from to' to x c.carry-line-outcome.result.over more e c.carry-line-outcome.ensures.stepped c.if-outcome.false h)),
-      c.carry-line-outcome.ensures.fair,
-      omega (arith, c.push-reserved.ensures.len, ap length e, c.loop-step.invariant.2),
-      c.push-reserved.ensures.capacity ∙ c.loop-step.invariant.3,
+          (sym (ap (λ t. t ++ more) c.push_reserved.ensures.items ∙ append_assoc (vec_items c.loop-step.sheet) (x ∷ []) more))
+          (c.loop-step.invariant.0 (x ∷ more) to (carries_on (left c.loop-step.reader) rest step from to' to x c.carry_line-outcome.result.over more e c.carry_line-outcome.ensures.stepped c.if-outcome.false h)),
+      c.carry_line-outcome.ensures.fair,
+      omega (arith, c.push_reserved.ensures.len, ap length e, c.loop-step.invariant.2),
+      c.push_reserved.ensures.capacity ∙ c.loop-step.invariant.3,
     )
 
 pub returns-then-outcome : goal.returns-then-outcome
 returns-then-outcome g c =
     let from = at (state_of c.loop-step.ledger) (marks_of c.loop-step.marks) in
-    let to = at (state_of c.carry-line-outcome.new.ledger) (marks_of c.carry-line-outcome.new.marks) in
-    let x = c.carry-line-outcome.result.line in
+    let to = at (state_of c.carry_line-outcome.new.ledger) (marks_of c.carry_line-outcome.new.marks) in
+    let x = c.carry_line-outcome.result.line in
     let step = c.in-Some.step in
     let rest = left c.step.new.self in
     let e : left c.loop-step.reader ≡ step ∷ rest =
     head_some (left c.loop-step.reader) step c.in-Some.ensures.value ∙ ap (λ ss. step ∷ ss) (sym c.step.ensures.after) in
-    let whole = c.loop-step.invariant.0 (x ∷ []) to (carries_last (left c.loop-step.reader) rest step from to x c.carry-line-outcome.result.over e c.carry-line-outcome.ensures.stepped c.if-outcome.true) in
+    let whole = c.loop-step.invariant.0 (x ∷ []) to (carries_last (left c.loop-step.reader) rest step from to x c.carry_line-outcome.result.over e c.carry_line-outcome.ensures.stepped c.if-outcome.true) in
     record {
-      carries = begun (state_of c.args.ledger.now) to c.new-reader.ensures c.new-marks.ensures (sym c.push-reserved.ensures.items) whole;
-      fair = c.carry-line-outcome.ensures.fair;
-      len = omega (arith, c.push-reserved.ensures.len, ap length e, c.loop-step.invariant.2);
-      capacity = c.push-reserved.ensures.capacity ∙ c.loop-step.invariant.3;
+      carries = begun (state_of c.args.ledger.now) to c.new-reader.ensures c.new-marks.ensures (sym c.push_reserved.ensures.items) whole;
+      fair = c.carry_line-outcome.ensures.fair;
+      len = omega (arith, c.push_reserved.ensures.len, ap length e, c.loop-step.invariant.2);
+      capacity = c.push_reserved.ensures.capacity ∙ c.loop-step.invariant.3;
     }
 
 pub returns : goal.returns
 returns g c =
-    let e : left c.loop-step.reader ≡ [] = head_none (left c.loop-step.reader) c.in-default.ensures.value in
+    let e : left c.loop-step.reader ≡ [] = head_none (left c.loop-step.reader) c.in_default.ensures.value in
     let to = at (state_of c.loop-step.ledger) (marks_of c.loop-step.marks) in
     let whole = c.loop-step.invariant.0 [] to (subst (λ ss. Carries ss to [] to) (sym e) (refl, refl)) in
     record {

@@ -19,5 +19,5 @@ returns-in-Ok g c =
       stepped = stepped_form c.args.step.form c.in-Ok.form l (at s ms) (at t ns) c.told.result.line c.told.result.over r
           c.in-Ok.is c.carry-answer.ensures.serves c.told.ensures.line c.told.ensures.over c.mark.ensures;
       fair = subst (λ xs. Fair t xs) (sym c.mark.ensures) (served c.in-Ok.form s r t l ms c.carry-answer.ensures.serves c.requires);
-      picks = picks_at c.in-Ok.is (g.R.Picks.picked c.args.router.now) (g.R.Picks.picked c.carry-answer.new.router) c.carry-answer.ensures.picks;
+      picks = picks_at c.in-Ok.is (g.R.Picks.picked c.args.router.now) (g.R.Picks.picked c.carry-answer.new.router) c.carry-answer.ensures.next;
     }

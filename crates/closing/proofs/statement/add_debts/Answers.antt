@@ -8,14 +8,14 @@ pub loop-line-preserved : goal.loop-line-preserved
 loop-line-preserved c =
     let ls = c.args.lines.now in
     let i = c.loop-line.line-index in
-    let last = c.debt-line.result ∷ [] in
+    let last = c.debt_line.result ∷ [] in
     let e = debt_lines_more ls i c.loop-line-test.true in (
-      c.push-reserved.ensures.items
+      c.push_reserved.ensures.items
           ∙ ap (λ t. t ++ last) c.loop-line.invariant.0
           ∙ append_assoc (vec_items c.args.sheet.now) (debt_lines (take i ls)) last
-          ∙ ap (λ t. vec_items c.args.sheet.now ++ t) (ap (λ x. debt_lines (take i ls) ++ (x ∷ [])) c.debt-line.ensures ∙ sym e),
-      omega (arith, c.push-reserved.ensures.len),
-      c.push-reserved.ensures.capacity ∙ c.loop-line.invariant.2,
+          ∙ ap (λ t. vec_items c.args.sheet.now ++ t) (ap (λ x. debt_lines (take i ls) ++ (x ∷ [])) c.debt_line.ensures ∙ sym e),
+      omega (arith, c.push_reserved.ensures.len),
+      c.push_reserved.ensures.capacity ∙ c.loop-line.invariant.2,
     )
 
 pub returns : goal.returns

@@ -12,8 +12,8 @@ loop-member-init c =
     let e = ap (λ t. vec_items c.args.sheet.now ++ t) (net_lines_none c.args.lines.now) ∙ append-nil (vec_items c.args.sheet.now) in
     (sym e, omega arith, search rules)
 
-pub add-net-requires : goal.add-net-requires
-add-net-requires c =
+pub add_net-requires : goal.add_net-requires
+add_net-requires c =
     let m = c.loop-member.member in
     let ls = c.args.lines.now in
     let is : get_or c.args.nets.now m (pos 0) ≡ net m ls =
@@ -24,10 +24,10 @@ pub loop-member-preserved : goal.loop-member-preserved
 loop-member-preserved c =
     let m = c.loop-member.member in
     let ls = c.args.lines.now in (
-      c.add-net.ensures.items
+      c.add_net.ensures.items
           ∙ ap (λ t. t ++ net_line ls m) c.loop-member.invariant.0
           ∙ append_assoc (vec_items c.args.sheet.now) (net_lines ls (range_with_len 0 m)) (net_line ls m)
           ∙ ap (λ t. vec_items c.args.sheet.now ++ t) (sym (net_lines_more ls m)),
-      omega (arith, c.add-net.ensures.len),
-      c.add-net.ensures.capacity ∙ c.loop-member.invariant.2,
+      omega (arith, c.add_net.ensures.len),
+      c.add_net.ensures.capacity ∙ c.loop-member.invariant.2,
     )

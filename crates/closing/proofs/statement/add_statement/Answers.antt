@@ -12,8 +12,8 @@ returns c =
     let nets = net_lines ls (range_with_len 0 64) in
     record {
       items =
-          c.push-reserved.ensures.items
-          ∙ ap (λ t. t ++ (End ∷ [])) (c.add-debts.ensures.items ∙ ap (λ t. t ++ debt_lines ls) c.add-nets.ensures.items)
+          c.push_reserved.ensures.items
+          ∙ ap (λ t. t ++ (End ∷ [])) (c.add_debts.ensures.items ∙ ap (λ t. t ++ debt_lines ls) c.add_nets.ensures.items)
           ∙ ap (λ t. t ++ (End ∷ [])) (append_assoc before nets (debt_lines ls))
           ∙ append_assoc before (nets ++ debt_lines ls) (End ∷ [])
           ∙ ap (λ t. before ++ t) (append_assoc nets (debt_lines ls) (End ∷ []));
