@@ -64,7 +64,7 @@ pub fn run(rt: &HostRuntime) -> anyhow::Result<()> {
     let mut output = Output::Sheet;
     let mut closed = false;
     for word in env::args(rt)?.skip(1) {
-        if word == "--explain" {
+        if word.as_str() == "--explain" {
             output = Output::Sentences;
         } else {
             closed = true;

@@ -13,7 +13,9 @@ fn same(a: &[u8], b: &[u8]) -> bool {
 fn add_text(text: &mut Vec<u8>, line: &SheetLine) -> Result<(), Fail> {
     let mut buffer = [0u8; MAX_LINE];
     let n = line.write(&mut buffer)?;
-    assert!(n <= MAX_LINE);
+    if n > MAX_LINE {
+        return Err(Fail::new("a line of the sheet is longer than its buffer"));
+    }
     text.extend_from_slice(&buffer[0..n])?;
     Ok(())
 }
@@ -31,8 +33,11 @@ fn sheet_of(rt: &HostRuntime, ledger: &mut Ledger, batch: &[u8]) -> Result<Vec<u
 // The batch closes with this sheet.
 fn closes(rt: &HostRuntime, ledger: &mut Ledger, batch: &[u8], sheet: &[u8]) -> Result<(), Fail> {
     let text = sheet_of(rt, ledger, batch)?;
-    assert!(same(&text, sheet));
-    Ok(())
+    if same(&text, sheet) {
+        Ok(())
+    } else {
+        Err(Fail::new("another sheet"))
+    }
 }
 
 #[test]
