@@ -6,12 +6,11 @@ use Rattle.std.proofs.lemmas.Bool.{not-false}
 use Rattle.credit.specs.declared.line.Line.{Line}
 use Rattle.credit.specs.declared.refusal.Refusal.{Refusal}
 use Rattle.credit.specs.declared.refusal.Refusal.TheVariants.{ReservationStands, SavepointOpen, BatchTooLong, LeftOpen}
-use Rattle.credit.specs.Refusals.{Verdict, passes, check, number_of}
+use Rattle.credit.specs.Refusals.{Verdict, passes, check}
 use Rattle.credit.specs.Net.{net, net_table}
 use Rattle.credit.specs.Plans.{with_debt}
 use Rattle.rings.proofs.Rings.{shape, distinct_shape}
 use Rattle.ledger.specs.declared.state.Ledger.{Ledger}
-use Rattle.calls.specs.declared.call.Call.{Call}
 use Rattle.calls.specs.declared.call.Call.TheVariants.{Open, Pay as PayCall, Reserve, Release, Begin, End as EndCall, Abandon, Tidy as TidyCall}
 use Rattle.calls.specs.declared.call.Answer.{Answer}
 use Rattle.calls.specs.declared.call.Answer.TheVariants.{Done, Reserved, Released, Kept, Undone, Refused}
@@ -32,9 +31,9 @@ use Rattle.batch.specs.declared.reader.Step.{Step}
 use Rattle.batch.specs.declared.sheet.SheetLine.{SheetLine}
 use Rattle.batch.specs.declared.sheet.SheetLine.TheVariants.{Refused as RefusedLine, Net, Debt, End}
 use Rattle.batch.specs.Reads.{steps_of}
-use Rattle.closing.specs.Statements.{on_line, has_line, net_line, net_lines, debt_lines, statement}
-use Rattle.closing.specs.Carries.{printed, LetGo, Serves, ends, accepted, drop_first, marks_by, marks_after, Place, at, Stepped, After, Carries}
-use Rattle.closing.specs.Closes.{door_checks, Abandons, Carried, ClosesBy, Closes}
+use Rattle.closing.specs.Statements.{on_line, has_line, net_lines, debt_lines, statement}
+use Rattle.closing.specs.Carries.{printed, LetGo, Serves, ends, accepted, marks_by, marks_after, Place, at, Stepped, After, Carries}
+use Rattle.closing.specs.Closes.{door_checks, Abandons, Carried, ClosesBy}
 use Rattle.closing.specs.Agrees.{Told, told, Alike, unrouted, unrouted_or, asked, SameAsked, Agree, SheetLaw}
 use Rattle.closing.specs.Agrees as sheets
 

@@ -1,19 +1,18 @@
 -- Along a batch no reservation stands between its lines, and there is a mark for each open group.
-use Rattle.std.proofs.Common.{◌≡◌, ℕ, suc, ◌+◌, ◌<◌, ◌≤◌, Bool, true, false, cond, not, ◌&&◌, ◌||◌, eqb, leb, List, [], ◌∷◌, length, ℤ, is_some, Some, None, Ok, Err, Option, Result, sym, refl, ap, ◌∙◌, subst, ap₂, arith}
+use Rattle.std.proofs.Common.{◌≡◌, ℕ, ◌<◌, Bool, true, false, cond, not, leb, List, [], ◌∷◌, length, ℤ, is_some, None, Ok, Err, sym, refl, ap, ◌∙◌, subst, ap₂, arith}
 use Rattle.credit.specs.declared.refusal.Refusal.{Refusal}
 use Rattle.credit.specs.declared.refusal.Refusal.TheVariants.{ReservationStands, TooManySavepoints, NoSavepoint}
 use Rattle.credit.specs.Refusals.{Verdict, passes, check}
-use Rattle.calls.specs.declared.call.Call.TheVariants.{Open, Pay as PayCall, Reserve, Release, Begin, End, Abandon, Tidy as TidyCall}
+use Rattle.calls.specs.declared.call.Call.TheVariants.{Reserve, Begin, Abandon}
 use Rattle.calls.specs.declared.call.Answer.{Answer}
 use Rattle.calls.specs.declared.call.Answer.TheVariants.{Done, Reserved, Released, Kept, Undone, Refused}
-use Rattle.ledger.specs.declared.reservation.Claim.{Claim}
-use Rattle.ledger.specs.States.{State, OpenGroup, with_lines, with_groups, with_standing}
+use Rattle.ledger.specs.States.{State, OpenGroup, with_groups, with_standing}
 use Rattle.ledger.specs.Checks.{inmost_spoiled, none_open, matches, pay_checks, open_checks, begin_checks, close_checks}
 use Rattle.ledger.specs.Calls.{Does, Plain, Pays, Paid, Reserves, Held, opened, begun, closed, spoils, spoil_inmost, after_refusal}
 use Rattle.batch.specs.declared.form.Form.{Form}
 use Rattle.batch.specs.declared.form.Form.TheVariants.{Line, Pay, Try, Tidy, Route, All, Close}
 use Rattle.closing.specs.Fairs.{Fair}
-use Rattle.closing.specs.Carries.{Serves, LetGo, accepted, marks_by, marks_after, drop_first, Place}
+use Rattle.closing.specs.Carries.{Serves, LetGo, accepted, marks_after, drop_first}
 
 -- two states that have the same reservation and as many groups
 fair_like : (s s' : State) (marks : List ℕ) → s'.standing ≡ s.standing → length s'.groups ≡ length s.groups → Fair s marks → Fair s' marks

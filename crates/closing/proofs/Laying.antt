@@ -1,7 +1,6 @@
 -- A batch that is carried out leaves a sheet of answers, left groups and a statement.
-use Rattle.std.proofs.Common.{◌≡◌, ℕ, zero, suc, ◌+◌, ◌<◌, ◌≤◌, Bool, true, false, cond, ◌⊎◌, List, [], ◌∷◌, ◌++◌, length, Ok, Err, Result, sym, refl, ap, ◌∙◌, subst, inl, inr, append_assoc, arith}
+use Rattle.std.proofs.Common.{◌≡◌, ℕ, suc, ◌+◌, ◌<◌, ◌≤◌, Bool, true, false, cond, List, [], ◌∷◌, ◌++◌, length, Ok, Err, Result, sym, refl, ap, ◌∙◌, subst, inl, inr, append_assoc, arith}
 use Rattle.credit.specs.declared.refusal.Refusal.{Refusal}
-use Rattle.credit.specs.declared.refusal.Refusal.TheVariants.{LeftOpen}
 use Rattle.credit.specs.Refusals.{Verdict}
 use Rattle.calls.specs.declared.call.Answer.{Answer}
 use Rattle.calls.specs.declared.call.Answer.TheVariants.{Done, Reserved, Released, Kept, Undone, Refused}
@@ -10,11 +9,10 @@ use Rattle.batch.specs.declared.form.Form.{Form}
 use Rattle.batch.specs.declared.form.Form.TheVariants.{Line, Pay, Try, Tidy, Route, All, Close}
 use Rattle.batch.specs.declared.reader.Step.{Step}
 use Rattle.batch.specs.declared.sheet.SheetLine.{SheetLine}
-use Rattle.batch.specs.declared.sheet.SheetLine.TheVariants.{Refused as RefusedLine}
 use Rattle.batch.specs.Forms.{form_of}
 use Rattle.batch.specs.Reads.{lines_of, numbered, steps_of}
 use Rattle.closing.specs.Statements.{statement}
-use Rattle.closing.specs.Carries.{printed, ends, accepted, drop_first, marks_by, marks_after, Place, at, Stepped, After, Carries}
+use Rattle.closing.specs.Carries.{printed, ends, accepted, drop_first, marks_by, Place, at, Stepped, After, Carries}
 use Rattle.closing.specs.Closes.{door_checks, Abandons, Carried, ClosesBy, Closes}
 use Rattle.closing.specs.Lays.{line_of, is_last, Unless, Answers, BeginsAt, LeftGroups, Parts, LaidBy, Laid}
 

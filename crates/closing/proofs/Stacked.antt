@@ -1,5 +1,5 @@
 -- A stack in an array, read from its top.
-use Rattle.std.proofs.Common.{◌≡◌, ℕ, ◌+◌, ◌-◌, ◌<◌, ◌≤◌, List, [], ◌∷◌, ◌++◌, reverse, length, get_or, take, set, sym, ap, ◌∙◌, subst, arith, length-take}
+use Rattle.std.proofs.Common.{◌≡◌, ℕ, ◌+◌, ◌-◌, ◌<◌, ◌≤◌, List, [], ◌∷◌, reverse, length, get_or, take, set, ap, ◌∙◌, arith, length-take}
 use Rattle.std.proofs.lemmas.List.{reverse-append, length-reverse, take_more, take_more_set}
 
 pub pushed : (xs : List ℕ) (d y : ℕ) → d < length xs → reverse (take (d + 1) (set xs d y)) ≡ y ∷ reverse (take d xs)

@@ -1,15 +1,14 @@
 -- A reservation that is released at once.
-use Rattle.std.proofs.Common.{◌≡◌, ℕ, Bool, true, false, cond, ◌&&◌, eqb, ℤ, Some, None, Ok, Err, sym, refl, ap, ◌∙◌, subst, arith}
+use Rattle.std.proofs.Common.{◌≡◌, ℕ, Bool, true, ℤ, Some, Ok, Err, refl, ap, ◌∙◌, subst, arith}
 use lib.Signed.{le_z}
 use Rattle.std.proofs.lemmas.Int.{ints}
 use Rattle.std.proofs.lemmas.Bool.{eq-eqb}
 use Rattle.credit.specs.Refusals.{Verdict}
 use Rattle.credit.proofs.Bounds.{le_z_test}
 use Rattle.calls.specs.declared.call.Call.TheVariants.{Reserve, Release}
-use Rattle.calls.specs.declared.call.Answer.{Answer}
-use Rattle.calls.specs.declared.call.Answer.TheVariants.{Reserved, Released, Refused}
+use Rattle.calls.specs.declared.call.Answer.TheVariants.{Reserved, Released}
 use Rattle.ledger.specs.States.{State}
-use Rattle.ledger.specs.Checks.{matches, pay_checks, eq_z}
+use Rattle.ledger.specs.Checks.{matches, pay_checks}
 use Rattle.ledger.specs.Calls.{Does, Reserves, Held, claim}
 use Rattle.batch.specs.declared.form.Form.TheVariants.{Try}
 use Rattle.closing.specs.Carries.{Serves}

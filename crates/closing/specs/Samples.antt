@@ -1,5 +1,5 @@
 -- Worked examples of ledgers that differ only in debts, and of batches that ask the same.
-use Rattle.std.specs.Prelude.{ℕ, List, [], ◌∷◌, ℤ, pos, neg_ℤ, None, codes}
+use Rattle.std.specs.Prelude.{ℕ, [], ◌∷◌, ℤ, pos, neg_ℤ, None, codes}
 use Rattle.credit.specs.declared.line.Line.{Line}
 use Rattle.ledger.specs.States.{State}
 use Rattle.closing.specs.Agrees.{Alike, SameAsked}

@@ -1,16 +1,15 @@
 -- The room of a group is the trust that outsiders give insiders plus the insiders' nets; a routed amount fits every group.
-use Rattle.std.proofs.Common.{◌≡◌, ℕ, zero, suc, ◌+◌, ◌<◌, ◌≤◌, Bool, true, false, cond, not, ◌&&◌, eqb, ltb, ◌≢◌, ◌⊎◌, List, [], ◌∷◌, ◌++◌, ℤ, pos, negsuc, ◌+ℤ◌, ◌-ℤ◌, neg_ℤ, ◌≤ℤ◌, ◌<ℤ◌, sym, refl, ap, ◌∙◌, subst, inl, inr, arith}
-use lib.IntN.{+ℤ_idl, +ℤ_assoc}
+use Rattle.std.proofs.Common.{◌≡◌, ℕ, ◌<◌, Bool, true, false, not, ◌&&◌, eqb, ltb, List, [], ◌∷◌, ℤ, pos, ◌+ℤ◌, ◌-ℤ◌, ◌≤ℤ◌, sym, refl, ap, ◌∙◌, arith}
 use lib.Signed.{le_z}
 use Rattle.std.proofs.lemmas.Int.{ints}
-use Rattle.std.proofs.lemmas.Bool.{eqb-true, eqb-false, eq-eqb, ne_eqb, cases_Bool, cases_eq, and_parts, ltb-true}
+use Rattle.std.proofs.lemmas.Bool.{and_parts, ltb-true}
 use Rattle.members.specs.Groups.{inside}
 use Rattle.credit.specs.declared.line.Line.{Line}
 use Rattle.credit.specs.Sums.{sum_z, members, only, every}
 use Rattle.credit.specs.Net.{share, net, bounded, framed, affordable, in_trust}
-use Rattle.credit.specs.Rooms.{room_onward, room_back, room_out, line_room, room, line_trust, trust, trust_into, net_inside}
-use Rattle.credit.specs.Plans.{booked, moved, sent, Flow, roomy, fits}
-use Rattle.credit.proofs.Sums.{sum_ext, sum_add, sum_only, only_add, only_sub, only_swap, members_ext, members_add, members_sub, members_zero, members_sum, members_pick}
+use Rattle.credit.specs.Rooms.{line_room, room, line_trust, trust, trust_into, net_inside}
+use Rattle.credit.specs.Plans.{booked, sent, Flow, roomy, fits}
+use Rattle.credit.proofs.Sums.{sum_only, only_add, only_sub, only_swap, members_ext, members_add, members_sub, members_zero, members_sum, members_pick}
 
 -- both ends are members
 abbrev pub Ends : Line → Type 0

@@ -1,16 +1,15 @@
 -- One line's move, as a change of the plan at its place; flows one after another.
-use Rattle.std.proofs.Common.{◌≡◌, ℕ, zero, suc, ◌+◌, ◌<◌, ◌≤◌, Bool, true, false, cond, ◌&&◌, ◌||◌, eqb, ◌≢◌, ◌⊎◌, List, [], ◌∷◌, length, get_or, set, ℤ, pos, ◌+ℤ◌, ◌-ℤ◌, ◌≤ℤ◌, sym, refl, ap, ◌∙◌, inl, inr, arith}
+use Rattle.std.proofs.Common.{◌≡◌, ℕ, zero, suc, ◌<◌, Bool, true, false, cond, ◌&&◌, eqb, ◌≢◌, ◌⊎◌, List, [], ◌∷◌, length, get_or, set, ℤ, pos, ◌+ℤ◌, ◌-ℤ◌, ◌≤ℤ◌, sym, refl, ap, ◌∙◌, inl, inr, arith}
 use Rattle.std.proofs.lemmas.Int.{ints}
 use Rattle.std.proofs.lemmas.Bool.{and_parts, or_cases, eqb-true, eq-eqb, ne_eqb}
 use Rattle.members.specs.Groups.{inside}
 use Rattle.credit.specs.declared.line.Line.{Line}
-use Rattle.credit.specs.Sums.{sum_z, only, every}
+use Rattle.credit.specs.Sums.{only, every}
 use Rattle.credit.specs.Net.{no_line}
 use Rattle.credit.specs.Rooms.{room_onward, room_back, room_out, line_room, room}
 use Rattle.credit.specs.Plans.{booked, moved, sent, Flow, roomy, fits, sent_from, room_from}
 use Rattle.credit.specs.Pairs.{joins}
 use Rattle.credit.proofs.Sums.{only_add, only_sub, sum_set, every_set, every_at}
-use Rattle.credit.proofs.Rooms.{line_room_lem}
 use Rattle.credit.proofs.Bounds.{roomy_facts, roomy_from}
 use Rattle.credit.proofs.Booked.{booked_at, length_booked}
 

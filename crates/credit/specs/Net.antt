@@ -1,5 +1,5 @@
 -- The bounds of a line, and net positions.
-use Rattle.std.specs.Prelude.{ℕ, Bool, true, false, ◌&&◌, List, [], ◌∷◌, map, ℤ, pos, ◌+ℤ◌, ◌-ℤ◌, neg_ℤ, ◌==◌, int_le, nat_lt}
+use Rattle.std.specs.Prelude.{ℕ, Bool, ◌&&◌, List, map, ℤ, pos, ◌-ℤ◌, neg_ℤ, ◌==◌, int_le, nat_lt}
 use Rattle.std.specs.List.{range_with_len}
 use Rattle.credit.specs.declared.line.Line.{Line}
 use Rattle.credit.specs.Sums.{sum_z, only}

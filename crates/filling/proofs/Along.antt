@@ -1,5 +1,5 @@
 -- A chain of different members filled step by step: the lines are different, the change is a flow, and no room turns negative.
-use Rattle.std.proofs.Common.{◌≡◌, ℕ, zero, suc, ◌+◌, ◌<◌, ◌≤◌, Bool, true, false, ◌&&◌, eqb, ◌≢◌, ◌⊎◌, List, [], ◌∷◌, length, get_or, drop, set, ℤ, pos, ◌+ℤ◌, ◌-ℤ◌, ◌≤ℤ◌, sym, refl, ap, ◌∙◌, subst, inl, inr, add-one, arith}
+use Rattle.std.proofs.Common.{◌≡◌, ℕ, zero, suc, ◌+◌, ◌<◌, ◌≤◌, true, eqb, ◌≢◌, ◌⊎◌, List, length, get_or, drop, ℤ, pos, ◌+ℤ◌, ◌-ℤ◌, ◌≤ℤ◌, sym, refl, ap, ◌∙◌, subst, inl, inr, add-one, arith}
 use lib.Signed.{le_z}
 use Rattle.std.proofs.lemmas.Int.{ints}
 use Rattle.std.proofs.lemmas.List.{length-set, get_or-set_other, drop-set-lt}
@@ -7,12 +7,11 @@ use Rattle.std.proofs.lemmas.Bool.{and_parts}
 use Rattle.credit.specs.declared.line.Line.{Line}
 use Rattle.credit.specs.Sums.{only}
 use Rattle.credit.specs.Net.{no_line}
-use Rattle.credit.specs.Plans.{booked, moved, sent, Flow, roomy, fits, sent_from, room_from}
+use Rattle.credit.specs.Plans.{booked, moved, sent, Flow, fits, sent_from, room_from}
 use Rattle.credit.specs.Pairs.{joins}
 use Rattle.credit.proofs.Booked.{booked_at, length_booked}
 use Rattle.credit.proofs.Sends.{flow_then, joins_cases, fits_set, roomy_at, flow_sent, roomy_sent}
-use Rattle.filling.specs.Steps.{leads, LeadsAt, RoomStep}
-use Rattle.filling.specs.Fillings.{sent_over, sent_along, Over, room_at, Least}
+use Rattle.filling.specs.Fillings.{sent_along, Over, room_at}
 
 -- a line of other members is another line
 other_line : (ls : List Line) (i j m n p q : ℕ) → joins m n (get_or ls i no_line) ≡ true → joins p q (get_or ls j no_line) ≡ true → m ≢ p → m ≢ q → j ≢ i

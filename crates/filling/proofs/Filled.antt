@@ -1,5 +1,5 @@
 -- What fillings leave: a flow of what they sent, no room negative, and lines and places as they were.
-use Rattle.std.proofs.Common.{◌≡◌, ℕ, zero, suc, ◌+◌, ◌<◌, ◌≤◌, Bool, true, false, ◌&&◌, leb, ◌≢◌, ◌⊎◌, List, [], ◌∷◌, length, get_or, drop, set, ℤ, pos, ◌+ℤ◌, ◌-ℤ◌, neg_ℤ, ◌≤ℤ◌, sym, refl, ap, ◌∙◌, subst, inl, inr, ⊎_elim, arith}
+use Rattle.std.proofs.Common.{◌≡◌, ℕ, ◌+◌, ◌<◌, ◌≤◌, true, ◌&&◌, leb, List, length, get_or, drop, ℤ, pos, ◌+ℤ◌, ◌-ℤ◌, neg_ℤ, ◌≤ℤ◌, sym, refl, ◌∙◌, subst, ⊎_elim, arith}
 use lib.Signed.{le_z}
 use Rattle.std.proofs.lemmas.Int.{ints}
 use Rattle.std.proofs.lemmas.Bool.{and_parts, and_from, leb-true, le-leb}
@@ -12,7 +12,6 @@ use Rattle.credit.proofs.Sums.{every_at}
 use Rattle.credit.proofs.Bounds.{le_z_order, le_z_test, bounded_facts, roomy_facts}
 use Rattle.credit.proofs.Sends.{flow_none, flow_add, roomy_at}
 use Rattle.routing.specs.Meaning.{usable}
-use Rattle.filling.specs.Steps.{leads, LeadsAt, RoomStep}
 use Rattle.filling.specs.Fillings.{sent_along, Over, room_at, Least, Filling, Fills, Fillings, none, more}
 use Rattle.filling.proofs.Along.{along_length, along_behind, along_flow, along_fits}
 

@@ -1,10 +1,10 @@
 -- The least room of a chain, step by step.
-use Rattle.std.proofs.Common.{◌≡◌, ℕ, ◌+◌, ◌<◌, ◌≤◌, Bool, true, false, cond, ◌⊎◌, List, ℤ, pos, ◌≤ℤ◌, sym, refl, ap, ◌∙◌, subst, inl, inr, ⊎_elim, arith}
+use Rattle.std.proofs.Common.{◌≡◌, ℕ, ◌+◌, ◌<◌, Bool, true, false, cond, ◌⊎◌, List, ℤ, ◌≤ℤ◌, sym, refl, subst, inl, inr, ⊎_elim, arith}
 use lib.Signed.{lt_z}
 use Rattle.std.proofs.lemmas.Int.{ints}
 use Rattle.std.specs.Int.{int_min}
 use Rattle.credit.specs.declared.line.Line.{Line}
-use Rattle.filling.specs.Fillings.{Over, room_at, Least}
+use Rattle.filling.specs.Fillings.{room_at, Least}
 
 last_or_before : (j i : ℕ) → j < i + 1 → (j < i) ⊎ (j ≡ i)
 last_or_before j i h = grind arith

@@ -1,10 +1,10 @@
 -- Rounds one after another.
-use Rattle.std.proofs.Common.{◌≡◌, ℕ, zero, suc, ◌+◌, ◌/◌, ◌<◌, ◌≤◌, Bool, true, false, cond, ltb, ◌⊎◌, List, ℤ, pos, ◌+ℤ◌, ◌-ℤ◌, ◌≤ℤ◌, Some, None, sym, refl, ap, ◌∙◌, subst, inl, inr, ⊎_elim, arith}
+use Rattle.std.proofs.Common.{◌≡◌, ℕ, zero, suc, ◌/◌, ◌<◌, ◌≤◌, Bool, true, false, cond, ltb, List, ℤ, pos, ◌+ℤ◌, ◌-ℤ◌, ◌≤ℤ◌, Some, None, sym, refl, ap, ◌∙◌, subst, inl, inr, ⊎_elim, arith}
 use Rattle.std.proofs.lemmas.Int.{ints}
 use Rattle.std.proofs.lemmas.Bool.{cases_lt, ltb-true, ltb-false}
 use Rattle.credit.specs.declared.line.Line.{Line}
 use Rattle.routing.specs.Meaning.{usable}
-use Rattle.filling.specs.Fillings.{Fillings, none, more, Closed, Round, Rounds, last, next}
+use Rattle.filling.specs.Fillings.{Fillings, none, Closed, Round, Rounds, last, next}
 use Rattle.filling.proofs.Filled.{Usable, usable_facts, usable_from, Left, left_add, usable_left, fillings_leave}
 
 pub half_some : (n : ℕ) → 1 < n → 1 ≤ n / 2

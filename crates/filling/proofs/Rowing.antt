@@ -1,13 +1,11 @@
 -- The rows of the room graph, line by line.
-use Rattle.std.proofs.Common.{◌≡◌, ℕ, zero, suc, ◌+◌, ◌<◌, ◌≤◌, Bool, true, false, ◌&&◌, ◌||◌, eqb, ltb, ◌≢◌, ◌⊎◌, List, [], ◌∷◌, length, get_or, take, ℤ, pos, sym, refl, ap, ◌∙◌, subst, inl, inr, ⊎_elim, add-one, arith}
+use Rattle.std.proofs.Common.{◌≡◌, ℕ, zero, suc, ◌+◌, ◌<◌, Bool, true, false, ◌&&◌, ◌||◌, eqb, ltb, ◌≢◌, ◌⊎◌, List, [], ◌∷◌, length, get_or, take, ℤ, sym, refl, ap, ◌∙◌, subst, inl, inr, ⊎_elim, add-one, arith}
 use lib.Signed.{le_z}
 use Rattle.std.proofs.lemmas.Bool.{cases_eq, eq-eqb, ne_eqb, lt-ltb, or_cases, or_left, or_right, false≢true}
-use Rattle.std.proofs.lemmas.List.{take_all}
 use Rattle.credit.specs.declared.line.Line.{Line}
 use Rattle.credit.specs.Net.{no_line}
 use Rattle.credit.specs.Plans.{room_from}
-use Rattle.credit.specs.Pairs.{joins}
-use Rattle.search.specs.Chains.{IsChain, IsShortest, Separates}
+use Rattle.search.specs.Chains.{IsChain}
 use Rattle.search.specs.Answers.{Answered}
 use Rattle.search.specs.declared.reach.Reach.{Reach}
 use Rattle.search.specs.declared.reach.Reach.TheVariants.{Along, Closed}

@@ -1,28 +1,28 @@
 -- What rounds of fillings leave is a router's answer.
-use Rattle.std.proofs.Common.{◌≡◌, ℕ, zero, suc, ◌^◌, ◌<◌, ◌≤◌, Bool, true, false, ◌&&◌, ◌||◌, eqb, ◌≢◌, ◌⊎◌, List, [], ◌∷◌, ◌++◌, length, get_or, take, drop, ℤ, pos, ◌+ℤ◌, ◌-ℤ◌, ◌≤ℤ◌, ◌<ℤ◌, Ok, Err, sym, refl, ap, ◌∙◌, subst, inl, inr, ⊎_elim, arith}
+use Rattle.std.proofs.Common.{◌≡◌, ℕ, suc, ◌^◌, ◌<◌, ◌≤◌, Bool, true, false, ◌&&◌, eqb, List, [], ◌∷◌, ◌++◌, length, get_or, take, drop, ℤ, pos, ◌+ℤ◌, ◌-ℤ◌, ◌≤ℤ◌, ◌<ℤ◌, Ok, Err, sym, refl, ap, ◌∙◌, subst, arith}
 use lib.Signed.{le_z}
 use Rattle.std.proofs.lemmas.Int.{ints, by_lt_z}
 use Rattle.std.proofs.lemmas.List.{take-append-drop}
-use Rattle.std.proofs.lemmas.Bool.{cases_Bool, both_ways, and_from, or_left, or_right, eq-eqb}
-use Rattle.members.specs.Groups.{inside, Has}
+use Rattle.std.proofs.lemmas.Bool.{both_ways, and_from, or_left, or_right, eq-eqb}
+use Rattle.members.specs.Groups.{inside}
 use Rattle.credit.specs.declared.line.Line.{Line}
-use Rattle.credit.specs.Sums.{sum_z, every, only}
+use Rattle.credit.specs.Sums.{sum_z, only}
 use Rattle.credit.specs.Net.{no_line, bounded}
 use Rattle.credit.specs.Rooms.{room_onward, room_back, line_room, room_out, room}
-use Rattle.credit.specs.Plans.{booked, roomy, room_from, Flow, fits}
+use Rattle.credit.specs.Plans.{booked, roomy, room_from, Flow}
 use Rattle.credit.specs.Pairs.{joins}
 use Rattle.credit.proofs.Sums.{every_at}
-use Rattle.credit.proofs.Bounds.{Bounds, bounded_facts, roomy_facts, le_z_test}
+use Rattle.credit.proofs.Bounds.{bounded_facts, roomy_facts, le_z_test}
 use Rattle.credit.proofs.Booked.{bounded_booked}
 use Rattle.credit.proofs.Rooms.{flow_room, ends_bounded}
 use Rattle.credit.proofs.Sends.{from_onward, from_back}
 use Rattle.search.specs.Chains.{Separates}
-use Rattle.routing.specs.Meaning.{usable, Routed, Tight}
-use Rattle.filling.specs.Steps.{leads, LeadsAt, RoomStep}
+use Rattle.routing.specs.Meaning.{Routed, Tight}
+use Rattle.filling.specs.Steps.{RoomStep}
 use Rattle.credit.specs.Refusals.{Verdict}
 use Rattle.filling.specs.Fillings.{Closed, Round, Rounds, Settles}
 use Rattle.routing.proofs.Passing.{Passed}
-use Rattle.filling.proofs.Filled.{Usable, Left}
+use Rattle.filling.proofs.Filled.{Usable}
 use Rattle.filling.proofs.Rounding.{rounds_leave, one_round}
 
 -- a sum of nothing

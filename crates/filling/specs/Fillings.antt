@@ -1,5 +1,5 @@
 -- Fillings of chains, one after another.
-use Rattle.std.specs.Prelude.{◌≡◌, ℕ, zero, suc, ◌+◌, ◌/◌, ◌<◌, ◌≤◌, ◌⊎◌, List, ℤ, pos, ◌-ℤ◌, ◌≤ℤ◌, Some, None, Ok, Err, Option, slice_index, slice_index_or, slice_set}
+use Rattle.std.specs.Prelude.{◌≡◌, ℕ, zero, suc, ◌+◌, ◌/◌, ◌<◌, ◌⊎◌, List, ℤ, pos, ◌-ℤ◌, ◌≤ℤ◌, Some, None, Ok, Err, Option, slice_index, slice_index_or, slice_set}
 use Rattle.credit.specs.declared.line.Line.{Line}
 use Rattle.credit.specs.Net.{no_line}
 use Rattle.credit.specs.Plans.{booked, sent_from, room_from}

@@ -1,5 +1,5 @@
 -- The state once a savepoint is pushed, marked or taken off.
-use Rattle.std.proofs.Common.{◌≡◌, ℕ, zero, suc, ◌<◌, ◌≤◌, Bool, true, false, List, [], ◌∷◌, ◌++◌, length, take, ℤ, is_some, Some, None, Option, sym, refl, ap, ◌∙◌, subst, ap₂, arith}
+use Rattle.std.proofs.Common.{◌≡◌, ℕ, ◌<◌, Bool, true, false, List, [], ◌∷◌, ◌++◌, length, take, ℤ, is_some, Some, None, Option, sym, refl, ap, ◌∙◌, ap₂, arith}
 use Rattle.std.specs.Option.{option_to_list}
 use Rattle.credit.specs.declared.line.Line.{Line}
 use Rattle.credit.specs.Plans.{booked}
@@ -7,7 +7,7 @@ use Rattle.credit.proofs.Booked.{length_booked}
 use Rattle.ledger.specs.declared.state.Savepoint.{Savepoint}
 use Rattle.ledger.specs.declared.reservation.Claim.{Claim}
 use Rattle.ledger.specs.Debts.{debts, with_debts}
-use Rattle.ledger.specs.States.{OpenGroup, open_group, State, with_lines}
+use Rattle.ledger.specs.States.{OpenGroup, State, with_lines}
 use Rattle.ledger.specs.Checks.{inmost_spoiled, none_open}
 use Rattle.ledger.specs.Calls.{begun, closed, opened, new_line}
 use Rattle.ledger.proofs.Stacks.{groups_of, groups_push, groups_length}

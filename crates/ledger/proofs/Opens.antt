@@ -1,13 +1,12 @@
 -- The line between two members, and what a new line keeps.
-use Rattle.std.proofs.Common.{◌≡◌, ℕ, zero, suc, ◌+◌, ◌<◌, ◌≤◌, Bool, true, false, cond, not, ◌&&◌, ◌||◌, eqb, ltb, leb, ◌≢◌, List, [], ◌∷◌, ◌++◌, length, get_or, drop, ℤ, pos, neg_ℤ, ◌≤ℤ◌, is_some, Some, None, Ok, Err, Option, sym, refl, ap, ◌∙◌, subst, ap₂, add-one, arith}
+use Rattle.std.proofs.Common.{◌≡◌, ℕ, zero, suc, ◌+◌, ◌<◌, ◌≤◌, Bool, true, false, cond, not, ◌&&◌, ◌||◌, eqb, ltb, leb, ◌≢◌, List, [], ◌∷◌, ◌++◌, length, get_or, drop, ℤ, pos, neg_ℤ, is_some, Some, None, Option, refl, ap, ◌∙◌, subst, ap₂, add-one, arith}
 use mathlib.Core.Bool.{and_comm}
 use lib.Signed.{le_z}
 use Rattle.std.proofs.lemmas.Int.{ints}
 use Rattle.std.proofs.lemmas.Bool.{and_parts, and_from, or_parts, or_from, not-true, not-false, ltb-true, ltb-false, lt-ltb, eqb-false, leb-false}
 use Rattle.credit.specs.declared.line.Line.{Line}
-use Rattle.credit.specs.declared.refusal.Refusal.{Refusal}
 use Rattle.credit.specs.declared.refusal.Refusal.TheVariants.{NoSuchMember, SameMember, OutOfRange, ReservationStands, PairHasLine, TooManyLines, SavepointOpen}
-use Rattle.credit.specs.Refusals.{Verdict, passes, check}
+use Rattle.credit.specs.Refusals.{passes}
 use Rattle.credit.specs.Sums.{every}
 use Rattle.credit.specs.Net.{in_trust, bounded}
 use Rattle.credit.specs.Pairs.{joins, joined, distinct}
@@ -15,7 +14,7 @@ use Rattle.credit.proofs.Bounds.{le_z_test, le_z_order}
 use Rattle.routing.specs.Meaning.{not_members}
 use Rattle.rings.proofs.Rings.{eqb_sym}
 use Rattle.ledger.specs.Between.{line_between}
-use Rattle.ledger.specs.States.{State, OpenGroup}
+use Rattle.ledger.specs.States.{State}
 use Rattle.ledger.specs.Checks.{none_open, open_checks}
 use Rattle.ledger.specs.Calls.{new_line}
 use Rattle.credit.proofs.Tables.{check_passes}

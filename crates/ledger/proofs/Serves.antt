@@ -1,5 +1,5 @@
 -- From what a router answered to what the ledger does.
-use Rattle.std.proofs.Common.{◌≡◌, ℕ, ◌≤◌, true, false, List, length, replicate, ℤ, pos, IfOk, Some, Ok, Err, Option, sym, subst}
+use Rattle.std.proofs.Common.{◌≡◌, ℕ, ◌≤◌, true, false, List, length, replicate, ℤ, pos, IfOk, Some, Ok, Err, Option, subst}
 use Rattle.credit.specs.declared.line.Line.{Line}
 use Rattle.credit.specs.Refusals.{Verdict, passes}
 use Rattle.credit.specs.Sums.{every}
@@ -10,7 +10,7 @@ use Rattle.ledger.specs.declared.reservation.Claim.{Claim}
 use Rattle.ledger.specs.Checks.{matches}
 use Rattle.ledger.specs.Sound.{proper, strained}
 use Rattle.ledger.specs.Calls.{blank, claim}
-use Rattle.ledger.proofs.Steps.{Checked, routed_checked, routed_tells, proper_claim, unstrained_routed, book_routed}
+use Rattle.ledger.proofs.Steps.{routed_checked, routed_tells, proper_claim, unstrained_routed, book_routed}
 
 -- a router's answer at the values that a call had
 pub served : (ls ls' : List Line) (p q : ℕ) (n n' : ℤ) (entry : List ℤ) (k : ℕ) (r : Verdict) (exit : List ℤ) → ls ≡ ls' → n ≡ n' → entry ≡ replicate k (pos 0) → k ≡ 256 → Routes ls p q n entry r exit → Routes ls' p q n' blank r exit

@@ -1,5 +1,5 @@
 -- What passing the checks tells, and what a router's answer to the ledger tells.
-use Rattle.std.proofs.Common.{◌≡◌, ℕ, ◌^◌, ◌<◌, ◌≤◌, Bool, true, false, not, ◌&&◌, eqb, ltb, leb, ◌≢◌, List, [], ◌∷◌, length, ℤ, pos, ◌+ℤ◌, ◌-ℤ◌, ◌≤ℤ◌, ◌<ℤ◌, is_some, Some, None, Ok, Err, Option, Result, sym, refl, ap, ◌∙◌, subst, ap₂, arith}
+use Rattle.std.proofs.Common.{◌≡◌, ℕ, ◌^◌, ◌<◌, ◌≤◌, Bool, true, false, not, ◌&&◌, eqb, ltb, leb, ◌≢◌, List, length, ℤ, ◌+ℤ◌, ◌-ℤ◌, ◌≤ℤ◌, ◌<ℤ◌, is_some, Some, None, Ok, Err, Option, sym, refl, ap, ◌∙◌, subst, ap₂, arith}
 use lib.Signed.{le_z}
 use Rattle.std.proofs.lemmas.Int.{ints}
 use Rattle.std.proofs.lemmas.Bool.{and_parts, and_from, ltb-true, le-leb, not-false, not-true, eqb-true, eqb-false}
@@ -16,7 +16,7 @@ use Rattle.credit.specs.Plans.{booked, fits}
 use Rattle.credit.proofs.Tables.{refused_passes, check_passes}
 use Rattle.credit.proofs.Rooms.{ends_bounded, flow_net, weak_duality}
 use Rattle.credit.proofs.Bounds.{le_z_order, le_z_test}
-use Rattle.routing.specs.Meaning.{not_members, not_amount, payment, usable, router_checks, Routed, Tight, Finds, Unless, Routes}
+use Rattle.routing.specs.Meaning.{not_members, not_amount, payment, usable, router_checks, Routed, Finds, Unless, Routes}
 use Rattle.ledger.specs.declared.reservation.Claim.{Claim}
 use Rattle.ledger.specs.Sound.{proper, strained}
 use Rattle.ledger.specs.States.{State}

@@ -1,5 +1,5 @@
 -- The results of the ledger's calls as answers.
-use Rattle.std.specs.Prelude.{◌≡◌, Bool, cond, List, length, replicate, ℤ, pos, Ok, Err, Result, ◌==◌}
+use Rattle.std.specs.Prelude.{◌≡◌, cond, List, length, replicate, ℤ, pos, Ok, Err, Result, ◌==◌}
 use Rattle.credit.specs.declared.refusal.Refusal.{Refusal}
 use Rattle.credit.specs.Refusals.{Verdict}
 use Rattle.calls.specs.declared.call.Answer.{Answer}

@@ -1,5 +1,5 @@
 -- What one call answers and leaves, served by any router that keeps the meaning.
-use Rattle.std.specs.Prelude.{◌≡◌, ℕ, Bool, true, false, cond, not, ◌||◌, List, [], ◌∷◌, ◌++◌, replicate, ℤ, pos, Some, None, Ok, Err, Option, Result, ◌==◌, nat_lt}
+use Rattle.std.specs.Prelude.{◌≡◌, ℕ, Bool, true, false, cond, not, ◌||◌, List, [], ◌∷◌, ◌++◌, replicate, ℤ, pos, Some, None, Ok, Err, ◌==◌, nat_lt}
 use Rattle.credit.specs.declared.line.Line.{Line}
 use Rattle.credit.specs.declared.refusal.Refusal.{Refusal}
 use Rattle.credit.specs.Refusals.{Verdict, passes, number_of}

@@ -1,5 +1,5 @@
 -- What a ledger means: its lines, the open groups of payments, and the standing reservation.
-use Rattle.std.specs.Prelude.{ℕ, Bool, List, [], ◌∷◌, map, reverse, length, take, ℤ, Some, None, vec_items, Option}
+use Rattle.std.specs.Prelude.{ℕ, Bool, List, [], map, reverse, length, take, ℤ, None, vec_items, Option}
 use Rattle.credit.specs.declared.line.Line.{Line}
 use Rattle.ledger.specs.declared.state.Savepoint.{Savepoint}
 use Rattle.ledger.specs.declared.state.Ledger.{Ledger}

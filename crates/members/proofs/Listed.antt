@@ -1,5 +1,5 @@
 -- The list of a group's members.
-use Rattle.std.proofs.Common.{◌≡◌, ℕ, zero, suc, ◌+◌, ◌-◌, ◌/◌, ◌%◌, ◌^◌, ◌<◌, ◌≤◌, true, false, not, ◌&&◌, eqb, [], ◌∷◌, length, sym, refl, ap, ◌∙◌, subst, inl, inr, pow-suc, div-one, add-one, arith}
+use Rattle.std.proofs.Common.{◌≡◌, ℕ, zero, suc, ◌+◌, ◌/◌, ◌%◌, ◌^◌, ◌<◌, ◌≤◌, true, false, not, ◌&&◌, eqb, [], ◌∷◌, length, sym, refl, ap, ◌∙◌, subst, inl, inr, pow-suc, div-one, add-one, arith}
 use lib.Bits.{bit_or}
 use lib.Count.{count_trailing_zeros, ones, ones_step}
 use Rattle.std.proofs.lemmas.Nat.{shr-shr}

@@ -1,5 +1,5 @@
 -- Two runs with the same calls give the same answers and nets; room decides.
-use Rattle.std.proofs.Common.{◌≡◌, ℕ, zero, suc, ◌+◌, ◌<◌, Bool, true, false, cond, not, ◌&&◌, ◌||◌, eqb, leb, List, [], ◌∷◌, ◌++◌, map, length, ℤ, pos, ◌+ℤ◌, ◌≤ℤ◌, ◌<ℤ◌, is_some, Some, None, Ok, Err, Option, Result, sym, refl, ap, ◌∙◌, subst, ap₂, subst₂, arith}
+use Rattle.std.proofs.Common.{◌≡◌, ℕ, zero, suc, ◌+◌, ◌<◌, Bool, true, false, cond, not, ◌&&◌, ◌||◌, eqb, leb, List, [], ◌∷◌, ◌++◌, map, length, ℤ, pos, ◌+ℤ◌, ◌≤ℤ◌, ◌<ℤ◌, is_some, Some, None, Ok, Err, Option, sym, refl, ap, ◌∙◌, subst, ap₂, subst₂, arith}
 use mathlib.Core.Path.{fun_ext}
 use Rattle.std.proofs.lemmas.Int.{ints}
 use Rattle.std.specs.List.{range_with_len}
@@ -25,7 +25,7 @@ use Rattle.ledger.specs.States.{OpenGroup, State, with_lines, with_groups, with_
 use Rattle.ledger.specs.Checks.{inmost_spoiled, none_open, matches, pay_checks, book_checks, open_checks, begin_checks, close_checks}
 use Rattle.ledger.specs.Calls.{blank, new_line, opened, claim, begun, closed, spoils, spoil_inmost, after_refusal, Paid, Pays, Held, Reserves, Books, Plain, Does}
 use Rattle.ledger.proofs.Shapes.{shape_booked, shape_with_debts, length_shape, room_alike}
-use Rattle.ledger.proofs.Steps.{Checked, pay_checked, Tightened, refused_tells, routed_fits}
+use Rattle.ledger.proofs.Steps.{Checked, pay_checked, refused_tells, routed_fits}
 use Rattle.replay.specs.Runs.{Turn, latest, Run, calls, net_tables, Reply, refused, reply, replies}
 use Rattle.replay.specs.History.{Event, event, trust_set, tally_by, tally}
 use Rattle.replay.specs.Law.{room_by, Short, LacksRoom, LacksRight, RoomRule, RoomDecides, Law}

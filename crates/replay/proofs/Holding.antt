@@ -1,5 +1,5 @@
 -- What calls do to the standing reservation, and the token that is held for it.
-use Rattle.std.proofs.Common.{◌≡◌, ℕ, Bool, true, false, cond, not, ◌&&◌, eqb, List, [], ◌∷◌, ℤ, pos, is_some, Some, None, Ok, Err, Option, Result, sym, refl, ap, ◌∙◌, subst, ap₂, subst₂, arith}
+use Rattle.std.proofs.Common.{◌≡◌, ℕ, Bool, true, false, cond, not, ◌&&◌, eqb, List, [], ◌∷◌, ℤ, is_some, Some, None, Ok, Err, Option, Result, sym, refl, ap, ◌∙◌, subst, ap₂, subst₂, arith}
 use lib.Signed.{le_z}
 use Rattle.std.proofs.lemmas.Int.{ints}
 use Rattle.std.proofs.lemmas.Bool.{and_parts, eqb-true}
@@ -9,7 +9,7 @@ use Rattle.credit.specs.Refusals.{Verdict, passes, check}
 use Rattle.calls.specs.declared.call.Call.{Call}
 use Rattle.calls.specs.declared.call.Call.TheVariants.{Open, Pay, Reserve, Book, Release, Begin, End, Abandon, Tidy}
 use Rattle.calls.specs.declared.call.Answer.{Answer}
-use Rattle.calls.specs.declared.call.Answer.TheVariants.{Done, Reserved, Released, Kept, Undone, Refused}
+use Rattle.calls.specs.declared.call.Answer.TheVariants.{Done, Reserved, Released, Refused}
 use Rattle.ledger.specs.declared.reservation.Claim.{Claim}
 use Rattle.ledger.specs.declared.reservation.Reservation.{Reservation}
 use Rattle.ledger.specs.declared.reservation.Unbooked.{Unbooked}
@@ -20,7 +20,7 @@ use Rattle.ledger.specs.Calls.{claim, opened, begun, closed, spoils, spoil_inmos
 use Rattle.ledger.proofs.Steps.{pay_checked}
 use Rattle.replay.specs.declared.tokens.Held as token
 use Rattle.replay.specs.declared.tokens.Served.{Served}
-use Rattle.replay.specs.Tokens.{places_of, on_sheet, claimed, Borne, Genuine, Serves}
+use Rattle.replay.specs.Tokens.{places_of, on_sheet, Borne, Genuine, Serves}
 
 no : {A : Type 0} → ◌≡◌ {A = ℕ} 0 1 → A
 no e = absurd (omega arith)

@@ -1,5 +1,5 @@
 -- Runs of a new ledger: a list of calls, each served by any router that keeps the meaning.
-use Rattle.std.specs.Prelude.{◌≡◌, ℕ, Bool, List, [], ◌∷◌, map, ℤ}
+use Rattle.std.specs.Prelude.{ℕ, Bool, List, [], ◌∷◌, map, ℤ}
 use Rattle.credit.specs.Refusals.{number_of}
 use Rattle.credit.specs.Net.{net_table}
 use Rattle.calls.specs.declared.call.Call.{Call}

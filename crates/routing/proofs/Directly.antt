@@ -7,7 +7,6 @@ use Rattle.credit.specs.declared.line.Line.{Line}
 use Rattle.credit.specs.Refusals.{Verdict, passes}
 use Rattle.credit.specs.Sums.{only}
 use Rattle.credit.specs.Net.{no_line}
-use Rattle.credit.specs.Rooms.{room}
 use Rattle.credit.specs.Plans.{moved, roomy, room_from, Flow, fits}
 use Rattle.credit.specs.Pairs.{joins}
 use Rattle.credit.proofs.Sends.{flow_sent, flow_add, fits_set, roomy_at, roomy_sent, room_sent}

@@ -1,12 +1,11 @@
 -- What is known once a router's checks are passed.
-use Rattle.std.proofs.Common.{◌≡◌, ℕ, ◌<◌, ◌≤◌, Bool, true, false, not, ◌&&◌, eqb, ltb, leb, ◌≢◌, List, length, ℤ, pos, ◌≤ℤ◌, refl, ap, ◌∙◌, arith}
+use Rattle.std.proofs.Common.{◌≡◌, ℕ, ◌<◌, ◌≤◌, Bool, true, false, not, ◌&&◌, eqb, ltb, leb, ◌≢◌, List, length, ℤ, pos, ◌≤ℤ◌, ap, ◌∙◌, arith}
 use lib.Signed.{le_z}
 use Rattle.std.proofs.lemmas.Bool.Decides.{nat_tests}
 use Rattle.std.proofs.lemmas.Bool.{and_parts, not-false, ltb-true, leb-true, eqb-false, ne_eqb, le-leb}
 use Rattle.credit.specs.declared.line.Line.{Line}
-use Rattle.credit.specs.declared.refusal.Refusal.{Refusal}
 use Rattle.credit.specs.declared.refusal.Refusal.TheVariants.{NoSuchMember, SameMember, OutOfRange, BadPlanSheet}
-use Rattle.credit.specs.Refusals.{Verdict, passes, check}
+use Rattle.credit.specs.Refusals.{passes, check}
 use Rattle.credit.specs.Sums.{every}
 use Rattle.credit.specs.Net.{bounded}
 use Rattle.credit.specs.Plans.{fits}

@@ -1,10 +1,9 @@
 -- What every router means: the answers routed, want of room and refusal, over lines, payer, payee, amount, the plan at
 -- entry and the plan at exit.
-use Rattle.std.specs.Prelude.{◌≡◌, ℕ, ◌^◌, ◌<◌, Bool, true, false, not, ◌&&◌, List, length, drop, ℤ, pos, ◌<ℤ◌, Ok, Err, Result, ◌==◌, int_le, nat_le, nat_lt}
+use Rattle.std.specs.Prelude.{◌≡◌, ℕ, ◌^◌, ◌<◌, Bool, true, false, not, ◌&&◌, List, length, drop, ℤ, pos, ◌<ℤ◌, Ok, Err, ◌==◌, int_le, nat_le, nat_lt}
 use Rattle.members.specs.declared.group.Group.{Group}
 use Rattle.members.specs.Groups.{inside}
 use Rattle.credit.specs.declared.line.Line.{Line}
-use Rattle.credit.specs.declared.refusal.Refusal.{Refusal}
 use Rattle.credit.specs.declared.refusal.Refusal.TheVariants.{NoSuchMember, SameMember, OutOfRange, WantOfRoom, BadPlanSheet}
 use Rattle.credit.specs.Refusals.{Verdict, passes, check}
 use Rattle.credit.specs.Sums.{every}

@@ -1,4 +1,4 @@
-use Rattle.std.proofs.Common.{◌≡◌, length, sym, ap, ◌∙◌, subst, to_z-of_z, w32, to_z, of_z}
+use Rattle.std.proofs.Common.{subst, to_z-of_z, w32, to_z, of_z}
 use Rattle.calls.specs.declared.call.Call.TheVariants.{Reserve}
 use Rattle.calls.specs.declared.call.Answer.TheVariants.{Reserved}
 use Rattle.ledger.specs.States.{state_of}

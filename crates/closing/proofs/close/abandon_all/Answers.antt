@@ -1,4 +1,4 @@
-use Rattle.std.proofs.Common.{◌≡◌, [], ◌∷◌, ◌++◌, length, vec_items, sym, refl, ap, ◌∙◌, arith}
+use Rattle.std.proofs.Common.{◌≡◌, ◌∷◌, length, vec_items, refl, ap, ◌∙◌, arith}
 use Rattle.ledger.specs.States.{state_of}
 use Rattle.calls.specs.Answers.{closed_or}
 use Rattle.closing.specs.Marked.{marks_of}

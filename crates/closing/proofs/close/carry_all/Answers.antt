@@ -1,11 +1,9 @@
-use Rattle.std.proofs.Common.{◌≡◌, List, [], ◌∷◌, ◌++◌, length, Some, vec_items, vec_len, sym, refl, ap, ◌∙◌, subst, append_assoc, append-nil, arith, rules}
+use Rattle.std.proofs.Common.{◌≡◌, [], ◌∷◌, ◌++◌, length, vec_items, sym, refl, ap, ◌∙◌, subst, append_assoc, append-nil, arith}
 use Rattle.ledger.specs.States.{state_of}
-use Rattle.batch.specs.declared.reader.Step.{Step}
-use Rattle.batch.specs.declared.sheet.SheetLine.{SheetLine}
-use Rattle.batch.specs.Reads.{left, steps_of, tail_of}
+use Rattle.batch.specs.Reads.{left}
 use Rattle.closing.specs.Marked.{marks_of}
 use Rattle.closing.specs.Fairs.{Fair}
-use Rattle.closing.specs.Carries.{Place, at, Carries}
+use Rattle.closing.specs.Carries.{at, Carries}
 use Rattle.closing.proofs.Carrying.{steps_few, head_some, head_none, carries_on, carries_last, begun}
 use Rattle.closing.proofs.close.carry_all.Goals as goal
 

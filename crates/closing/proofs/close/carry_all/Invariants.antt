@@ -1,7 +1,7 @@
-use Rattle.std.proofs.Common.{◌≡◌, ◌+◌, ◌≤◌, List, [], ◌++◌, length, vec_items, vec_len, vec_capacity}
+use Rattle.std.proofs.Common.{◌≡◌, ◌+◌, ◌≤◌, List, ◌++◌, length, vec_items, vec_len, vec_capacity}
 use Rattle.ledger.specs.States.{state_of}
 use Rattle.batch.specs.declared.sheet.SheetLine.{SheetLine}
-use Rattle.batch.specs.Reads.{left, steps_of}
+use Rattle.batch.specs.Reads.{left}
 use Rattle.closing.specs.Marked.{marks_of}
 use Rattle.closing.specs.Fairs.{Fair}
 use Rattle.closing.specs.Carries.{Place, at, Carries}

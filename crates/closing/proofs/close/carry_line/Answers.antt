@@ -1,4 +1,4 @@
-use Rattle.std.proofs.Common.{◌≡◌, sym, subst}
+use Rattle.std.proofs.Common.{sym, subst}
 use Rattle.ledger.specs.States.{state_of}
 use Rattle.closing.specs.Marked.{marks_of}
 use Rattle.closing.specs.Fairs.{Fair}

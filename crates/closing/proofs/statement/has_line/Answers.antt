@@ -1,7 +1,7 @@
-use Rattle.std.proofs.Common.{◌≡◌, ◌+◌, Bool, true, false, ◌||◌, drop, sym, ap, ◌∙◌}
+use Rattle.std.proofs.Common.{◌+◌, Bool, ◌||◌, drop, sym, ap, ◌∙◌}
 use Rattle.std.proofs.lemmas.List.{at_drop_more, at_drop_all}
 use Rattle.credit.specs.Net.{no_line}
-use Rattle.closing.specs.Statements.{on_line, has_line}
+use Rattle.closing.specs.Statements.{has_line}
 use Rattle.closing.proofs.statement.has_line.Goals as goal
 
 pub returns-then-touches : goal.returns-then-touches

@@ -1,4 +1,4 @@
-use Rattle.std.proofs.Common.{◌≡◌, ℕ, [], pos, refl, arith}
+use Rattle.std.proofs.Common.{◌≡◌, [], pos, refl, arith}
 use Rattle.std.proofs.lemmas.Int.{ints}
 use Rattle.members.specs.Groups.{inside}
 use Rattle.credit.specs.Plans.{Flow}

@@ -1,4 +1,4 @@
-use Rattle.std.proofs.Common.{◌≡◌, pos, sym, arith}
+use Rattle.std.proofs.Common.{pos, sym, arith}
 use Rattle.std.proofs.lemmas.List.{get_or_past}
 use Rattle.credit.proofs.plan.planned.Goals as goal
 

@@ -1,4 +1,4 @@
-use Rattle.std.proofs.Common.{◌≡◌, ℕ, ◌+◌, List, [], ◌∷◌, ◌++◌, get_or, drop, string_bytes, Option, sym, refl, ap}
+use Rattle.std.proofs.Common.{ℕ, ◌+◌, List, [], ◌∷◌, ◌++◌, get_or, drop, string_bytes, Option, sym, refl, ap}
 use Rattle.batch.specs.declared.form.Form.{Form}
 use Rattle.batch.specs.declared.sheet.SheetLine.{SheetLine}
 use Rattle.batch.specs.declared.sheet.SheetLine.TheVariants.{Done}

@@ -1,5 +1,5 @@
-use Rattle.std.proofs.Common.{◌≡◌, ℕ, ◌+◌, ◌<◌, length, get_or, ℤ, pos, sym, ap, ◌∙◌, subst, arith, w32, w64, SFits, to_z, of_z, rules}
-use Rattle.std.proofs.lemmas.Int.{ints, to_z-of_z}
+use Rattle.std.proofs.Common.{◌≡◌, ◌+◌, ◌<◌, length, get_or, pos, sym, ap, ◌∙◌, subst, arith, w32, w64, SFits, to_z, of_z, rules}
+use Rattle.std.proofs.lemmas.Int.{to_z-of_z}
 use Rattle.credit.specs.Net.{no_line}
 use Rattle.credit.specs.Plans.{booked, moved, room_from}
 use Rattle.credit.proofs.Booked.{booked_at}

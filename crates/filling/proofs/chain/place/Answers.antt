@@ -1,8 +1,6 @@
-use Rattle.std.proofs.Common.{◌≡◌, ◌<◌, true, length, get_or, pos, sym, ap, ◌∙◌, arith, w32, SFits, rules, below_more}
+use Rattle.std.proofs.Common.{◌<◌, length, get_or, pos, sym, ap, ◌∙◌, arith, w32, SFits, rules, below_more}
 use Rattle.std.proofs.lemmas.Int.{to_z-of_z}
 use Rattle.std.proofs.lemmas.Bool.{both_ways}
-use Rattle.credit.specs.Net.{no_line}
-use Rattle.credit.specs.Plans.{booked, moved}
 use Rattle.credit.proofs.Booked.{booked_at, length_booked}
 use Rattle.filling.specs.Steps.{leads}
 use Rattle.filling.proofs.chain.place.Goals as goal

@@ -1,9 +1,8 @@
-use Rattle.std.proofs.Common.{◌≡◌, ℕ, ◌+◌, ◌<◌, ◌≢◌, length, get_or, set, pos, sym, ap, ◌∙◌, subst, arith, w32, SFits, to_z, of_z, rules, below_more}
+use Rattle.std.proofs.Common.{◌+◌, ◌≢◌, get_or, sym, ◌∙◌, subst, arith, w32, to_z, of_z, below_more}
 use Rattle.std.proofs.lemmas.Int.{to_z-of_z}
 use Rattle.std.proofs.lemmas.List.{length-set, get_or-set_same, get_or-set_other}
 use Rattle.credit.specs.Plans.{booked}
 use Rattle.filling.specs.Steps.{LeadsAt, RoomStep}
-use Rattle.filling.specs.Fillings.{Over}
 use Rattle.filling.proofs.chain.places.Goals as goal
 
 pub place-requires : goal.place-requires

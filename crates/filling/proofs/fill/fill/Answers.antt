@@ -1,9 +1,9 @@
-use Rattle.std.proofs.Common.{◌≡◌, ℕ, ◌+◌, ◌<◌, length, get_or, ℤ, pos, ◌≤ℤ◌, sym, ap, ◌∙◌, subst, arith, w32, w64, SFits, to_z, of_z, rules}
+use Rattle.std.proofs.Common.{◌≡◌, ℕ, ◌+◌, ◌<◌, get_or, ℤ, pos, ◌≤ℤ◌, sym, subst, arith, w32, w64, to_z, of_z}
 use Rattle.std.proofs.lemmas.Int.{ints, to_z-of_z}
 use Rattle.credit.specs.Plans.{booked}
 use Rattle.credit.proofs.Booked.{length_booked}
 use Rattle.filling.specs.Steps.{RoomStep}
-use Rattle.filling.specs.Fillings.{Over, Least, sent_along}
+use Rattle.filling.specs.Fillings.{Over, Least}
 use Rattle.filling.proofs.Filled.{usable_facts, over_at, least_some}
 use Rattle.filling.proofs.fill.fill.Goals as goal
 

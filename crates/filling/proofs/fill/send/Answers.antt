@@ -1,4 +1,4 @@
-use Rattle.std.proofs.Common.{◌≡◌, suc, ◌<◌, ◌≤◌, length, get_or, set, pos, neg_ℤ, ◌≤ℤ◌, sym, ap, ◌∙◌, subst, add-one, arith, w32, SFits, to_z, of_z, rules}
+use Rattle.std.proofs.Common.{◌≡◌, ◌<◌, length, get_or, set, pos, neg_ℤ, ◌≤ℤ◌, sym, ap, ◌∙◌, subst, add-one, arith, w32, SFits, to_z, of_z, rules}
 use Rattle.std.proofs.lemmas.Int.{ints, to_z-of_z}
 use Rattle.credit.specs.Net.{no_line}
 use Rattle.credit.specs.Plans.{sent_from}

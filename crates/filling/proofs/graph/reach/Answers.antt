@@ -1,4 +1,4 @@
-use Rattle.std.proofs.Common.{◌≡◌, true, w32}
+use Rattle.std.proofs.Common.{◌≡◌, true}
 use Rattle.std.proofs.lemmas.Int.{to_z-of_z}
 use Rattle.credit.specs.Plans.{booked}
 use Rattle.search.specs.Rowed.{reaches}

@@ -1,11 +1,10 @@
-use Rattle.std.proofs.Common.{◌≡◌, ◌<◌, ◌≤◌, Bool, true, ◌||◌, length, get_or, take, pos, sym, ap, ◌∙◌, arith, w32, SFits, to_z, of_z, rules}
+use Rattle.std.proofs.Common.{◌<◌, ◌||◌, length, get_or, take, pos, sym, ap, ◌∙◌, arith, w32, SFits, to_z, of_z, rules}
 use Rattle.std.proofs.lemmas.Int.{to_z-of_z}
 use Rattle.std.proofs.lemmas.List.{take_all}
 use Rattle.credit.specs.Net.{no_line, bounded}
 use Rattle.credit.specs.Plans.{booked, moved}
 use Rattle.credit.proofs.Sums.{every_at}
 use Rattle.credit.proofs.Booked.{booked_at, length_booked}
-use Rattle.search.specs.Rowed.{reaches}
 use Rattle.filling.specs.Steps.{leads}
 use Rattle.filling.proofs.Filled.{usable_facts}
 use Rattle.filling.proofs.Rowing.{any_leads, any_more, any_step, step_any}

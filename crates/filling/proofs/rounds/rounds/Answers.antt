@@ -1,4 +1,4 @@
-use Rattle.std.proofs.Common.{◌≡◌, ℕ, ◌/◌, ◌<◌, ◌≤◌, List, ℤ, pos, ◌≤ℤ◌, sym, ap, ◌∙◌, subst, arith, w32, SFits, to_z, of_z}
+use Rattle.std.proofs.Common.{◌≡◌, ℕ, ◌/◌, ◌<◌, ◌≤◌, ℤ, pos, ◌≤ℤ◌, sym, ap, ◌∙◌, subst, arith, w32, SFits, to_z, of_z}
 use Rattle.std.proofs.lemmas.Int.{ints, to_z-of_z, to_z_pos}
 use Rattle.filling.specs.Fillings.{Closed, Rounds, RoundsEnd}
 use Rattle.filling.proofs.Rounding.{half_some, halved_some, halved_none, one, all_sent, then_half, then_none, fillings_usable}

@@ -1,7 +1,6 @@
-use Rattle.std.proofs.Common.{◌≡◌, ◌^◌, ◌<◌, length, ℤ, pos, ◌-ℤ◌, ◌≤ℤ◌, sym, refl, ap, ◌∙◌, subst, arith, w32, SFits, to_z, of_z, rules}
+use Rattle.std.proofs.Common.{◌≡◌, ◌^◌, ◌<◌, ℤ, pos, ◌-ℤ◌, ◌≤ℤ◌, ap, ◌∙◌, subst, arith, w32, SFits, to_z, of_z, rules}
 use Rattle.std.proofs.lemmas.Int.{ints, to_z-of_z}
 use Rattle.credit.specs.declared.refusal.Refusal.TheVariants.{WantOfRoom}
-use Rattle.routing.specs.Meaning.{Tight}
 use Rattle.filling.specs.Fillings.{Rounds}
 use Rattle.routing.proofs.Passing.{passed_facts}
 use Rattle.filling.proofs.Settling.{all_routed, all_tight, taken_back}

@@ -1,4 +1,4 @@
-use Rattle.std.proofs.Common.{◌≡◌, sym, ◌∙◌}
+use Rattle.std.proofs.Common.{sym, ◌∙◌}
 use Rattle.credit.specs.Net.{no_line}
 use Rattle.ledger.proofs.Opens.{between_here, between_more, between_past}
 use Rattle.ledger.proofs.lines.line_between.Goals as goal

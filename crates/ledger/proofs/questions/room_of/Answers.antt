@@ -1,4 +1,4 @@
-use Rattle.std.proofs.Common.{◌≡◌, ap, ◌∙◌, w32, SFits, rules}
+use Rattle.std.proofs.Common.{ap, ◌∙◌, w32, SFits, rules}
 use Rattle.std.proofs.lemmas.Int.{to_z-of_z}
 use Rattle.credit.specs.Rooms.{room}
 use Rattle.credit.proofs.Booked.{booked_none, fits_none}

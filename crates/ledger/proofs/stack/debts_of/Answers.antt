@@ -1,4 +1,4 @@
-use Rattle.std.proofs.Common.{◌≡◌, ◌<◌, length, get_or, take, set, pos, sym, refl, ap, ◌∙◌, arith, length-set, w32, SFits, to_z, of_z, rules}
+use Rattle.std.proofs.Common.{◌≡◌, ◌<◌, length, get_or, take, pos, sym, refl, ap, ◌∙◌, arith, length-set, w32, SFits, rules}
 use lib.ListN.{length-replicate}
 use Rattle.std.proofs.lemmas.Int.{to_z-of_z}
 use Rattle.std.proofs.lemmas.List.{take_all}

@@ -1,7 +1,7 @@
-use Rattle.std.proofs.Common.{◌≡◌, ◌<◌, length, get_or, take, set, pos, sym, refl, ap, ◌∙◌, arith, w32, SFits, to_z, of_z, rules}
+use Rattle.std.proofs.Common.{◌<◌, length, get_or, pos, sym, ◌∙◌, arith, w32, SFits, rules}
 use Rattle.std.proofs.lemmas.Int.{to_z-of_z}
 use Rattle.credit.specs.Net.{no_line}
-use Rattle.ledger.proofs.Restores.{overlay, overlay_none, overlay_more, overlay_all}
+use Rattle.ledger.proofs.Restores.{overlay_none, overlay_more, overlay_all}
 use Rattle.ledger.proofs.stack.restore.Goals as goal
 
 pub loop-i-init : goal.loop-i-init

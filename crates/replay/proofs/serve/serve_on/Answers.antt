@@ -1,4 +1,4 @@
-use Rattle.std.proofs.Common.{◌≡◌, length, ℤ, refl, ap, subst, subst₂, w32, SFits, rules}
+use Rattle.std.proofs.Common.{length, ℤ, refl, ap, subst, subst₂, w32, SFits, rules}
 use Rattle.std.proofs.lemmas.Int.{to_z-of_z}
 use Rattle.calls.specs.declared.call.Call.{Call}
 use Rattle.calls.specs.declared.call.Call.TheVariants.{Open, Pay, Begin, End, Abandon, Tidy}

@@ -1,4 +1,4 @@
-use Rattle.std.proofs.Common.{◌≡◌, length, ℤ, Some, sym, subst, w32, SFits, to_z, of_z, rules}
+use Rattle.std.proofs.Common.{length, ℤ, Some, sym, subst, w32, SFits, rules}
 use Rattle.std.proofs.lemmas.Int.{to_z-of_z}
 use Rattle.calls.specs.declared.call.Call.TheVariants.{Reserve}
 use Rattle.calls.specs.declared.call.Answer.TheVariants.{Reserved}

@@ -1,4 +1,4 @@
-use Rattle.std.proofs.Common.{◌≡◌, ◌-◌, ◌∷◌, reverse, take, sym, ap, ◌∙◌, arith}
+use Rattle.std.proofs.Common.{◌-◌, ◌∷◌, reverse, take, sym, ap, ◌∙◌, arith}
 use Rattle.closing.proofs.Stacked.{popped}
 use Rattle.closing.proofs.marks.Marks.pop.Goals as goal
 

@@ -1,4 +1,4 @@
-use Rattle.std.proofs.Common.{◌≡◌, Bool, ◌&&◌, neg_ℤ, ◌≤ℤ◌, sym, ap, ◌∙◌, arith, w32, to_z, of_z}
+use Rattle.std.proofs.Common.{Bool, ◌&&◌, neg_ℤ, ◌≤ℤ◌, sym, ap, ◌∙◌, arith, w32, to_z, of_z}
 use lib.Signed.{le_z}
 use Rattle.std.proofs.lemmas.Int.{ints}
 use Rattle.credit.proofs.Bounds.{le_z_test, same_order}

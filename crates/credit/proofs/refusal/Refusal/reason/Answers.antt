@@ -1,4 +1,4 @@
-use Rattle.std.proofs.Common.{◌≡◌, sym, ap}
+use Rattle.std.proofs.Common.{sym, ap}
 use Rattle.credit.specs.Sentences.{reason_of}
 use Rattle.credit.proofs.refusal.Refusal.reason.Goals as goal
 

@@ -1,4 +1,4 @@
-use Rattle.std.proofs.Common.{◌≡◌, ℕ, List, ◌++◌, ℤ, codes, decimal, Option, sym, ap, ◌∙◌, arith, w32, to_z, of_z}
+use Rattle.std.proofs.Common.{◌≡◌, ℕ, List, ◌++◌, ℤ, codes, decimal, Option, ap, ◌∙◌, arith, w32, to_z, of_z}
 use Rattle.std.proofs.Output.{has_written_of_eq}
 use Rattle.std.proofs.lemmas.Int.{ints}
 use Rattle.members.specs.declared.group.Group.{Group}

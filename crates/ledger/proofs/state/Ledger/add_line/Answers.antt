@@ -1,4 +1,4 @@
-use Rattle.std.proofs.Common.{◌≡◌, ℕ, true, List, [], ◌∷◌, ◌++◌, length, ℤ, vec_items, sym, refl, ap, ◌∙◌, ap₂, arith, w32, SFits, to_z, of_z}
+use Rattle.std.proofs.Common.{◌≡◌, ℕ, List, [], ◌∷◌, ◌++◌, length, ℤ, vec_items, ap, ◌∙◌, ap₂, arith, w32, SFits, to_z, of_z}
 use Rattle.std.proofs.lemmas.Int.{to_z-of_z}
 use Rattle.credit.specs.declared.line.Line.{Line}
 use Rattle.credit.specs.Sums.{every}
@@ -7,7 +7,7 @@ use Rattle.credit.specs.Pairs.{distinct}
 use Rattle.ledger.specs.Sound.{restorable}
 use Rattle.ledger.specs.States.{state_of}
 use Rattle.ledger.specs.Calls.{new_line}
-use Rattle.ledger.proofs.Opens.{Openable, openable, opened_bounds, opened_pairs}
+use Rattle.ledger.proofs.Opens.{openable, opened_bounds, opened_pairs}
 use Rattle.ledger.proofs.Steps.{unstrained_none}
 use Rattle.ledger.proofs.Closes.{open_none, opened_shown}
 use Rattle.ledger.proofs.state.Ledger.add_line.Goals as goal

@@ -1,4 +1,4 @@
-use Rattle.std.proofs.Common.{◌≡◌, List, length, replicate, pos, vec_items, ap, ◌∙◌, w32, rules}
+use Rattle.std.proofs.Common.{◌≡◌, length, replicate, pos, vec_items, w32, rules}
 use Rattle.std.proofs.lemmas.Int.{to_z-of_z}
 use Rattle.routing.specs.Meaning.{Routes}
 use Rattle.ledger.specs.Calls.{blank}

@@ -1,4 +1,4 @@
-use Rattle.std.proofs.Common.{◌≡◌, ℕ, true, List, [], ◌∷◌, ◌++◌, length, take, ℤ, vec_items, Vec, sym, refl, ap, ◌∙◌, subst, ap₂, arith, rules}
+use Rattle.std.proofs.Common.{◌≡◌, List, length, ℤ, vec_items, Vec, ap, ◌∙◌, arith}
 use Rattle.std.specs.Vec.{with_items}
 use Rattle.std.specs.declared.alloc.Global.{Global}
 use Rattle.std.proofs.lemmas.List.{with_items_is}
@@ -6,7 +6,7 @@ use Rattle.credit.specs.declared.line.Line.{Line}
 use Rattle.credit.specs.Sums.{every}
 use Rattle.credit.specs.Net.{bounded}
 use Rattle.credit.specs.Pairs.{distinct}
-use Rattle.credit.specs.Plans.{booked, fits}
+use Rattle.credit.specs.Plans.{booked}
 use Rattle.credit.proofs.Booked.{length_booked, bounded_booked}
 use Rattle.ledger.specs.Sound.{restorable}
 use Rattle.ledger.proofs.Restores.{restorable_alike, with_debts_booked, distinct_booked}

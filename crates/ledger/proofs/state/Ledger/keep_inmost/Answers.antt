@@ -1,5 +1,4 @@
-use Rattle.std.proofs.Common.{◌≡◌, true, length, take, vec_items, sym, refl, ap, ◌∙◌, subst, arith, rules}
-use Rattle.ledger.specs.Sound.{restorable}
+use Rattle.std.proofs.Common.{vec_items, arith}
 use Rattle.ledger.proofs.Restores.{restorable_rest}
 use Rattle.ledger.proofs.Closes.{kept_pop}
 use Rattle.ledger.proofs.state.Ledger.keep_inmost.Goals as goal

@@ -1,4 +1,4 @@
-use Rattle.std.proofs.Common.{◌≡◌, Bool, true, false, eqb, ◌⊎◌, length, vec_items, vec_len, sym, ap, ◌∙◌, inl, inr, arith}
+use Rattle.std.proofs.Common.{length, vec_items, vec_len, sym, ◌∙◌, inl, inr, arith}
 use Rattle.std.proofs.lemmas.Bool.{cases_eq, eq-eqb, ne_eqb}
 use Rattle.ledger.proofs.Stacks.{none_open_lem, some_open}
 use Rattle.ledger.proofs.state.Ledger.none_open.Goals as goal

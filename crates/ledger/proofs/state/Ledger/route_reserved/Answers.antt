@@ -1,4 +1,4 @@
-use Rattle.std.proofs.Common.{◌≡◌, ◌≤◌, length, vec_items, arith, w32, SFits, rules}
+use Rattle.std.proofs.Common.{◌≤◌, length, vec_items, arith, w32, SFits, rules}
 use Rattle.std.proofs.lemmas.Int.{to_z-of_z}
 use Rattle.credit.specs.Refusals.{passes}
 use Rattle.routing.specs.Meaning.{Routes}

@@ -1,4 +1,4 @@
-use Rattle.std.proofs.Common.{◌≡◌, ◌-◌, true, length, vec_items, sym, refl, ap, ◌∙◌, arith, rules}
+use Rattle.std.proofs.Common.{length, vec_items, ap, arith}
 use Rattle.ledger.specs.States.{state_of, with_groups}
 use Rattle.ledger.proofs.Stacks.{unmarked}
 use Rattle.ledger.proofs.state.Ledger.spoil_inmost.Goals as goal

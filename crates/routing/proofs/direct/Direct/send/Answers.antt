@@ -1,4 +1,4 @@
-use Rattle.std.proofs.Common.{◌≡◌, length, set, ℤ, ◌-ℤ◌, ◌≤ℤ◌, ◌<ℤ◌, ap, ◌∙◌, subst, arith, length-set, w32, to_z, of_z}
+use Rattle.std.proofs.Common.{◌≡◌, length, set, ◌-ℤ◌, ◌≤ℤ◌, ◌<ℤ◌, ap, ◌∙◌, subst, arith, length-set, w32, to_z, of_z}
 use Rattle.std.proofs.lemmas.Int.{ints, to_z-of_z}
 use Rattle.credit.specs.Refusals.{passes}
 use Rattle.routing.specs.Meaning.{router_checks}
