@@ -2,7 +2,7 @@
 """Spells this repository's own definitions and lemmas as today's Rattle does: words in snake case, types, facts and
 modules in camel case. Run once at the top, after port.py. Names of src/, goals, strings, inputs and outputs stay.
 
-It prints each name that would fall together with another, and leaves that one alone."""
+It prints the names that fall together with another: see them through, and give a lemma that should not a name of its own in APART."""
 import collections
 import glob
 import os

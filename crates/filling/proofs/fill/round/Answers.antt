@@ -29,14 +29,14 @@ small : (left n : ℤ) → SFits w32 n → left ≤ℤ to_z w32 (of_z w32 n) →
 small left n f h k = omega (arith, ints)
 
 pub loop-left-init : goal.loop-left-init
-loop-left-init c = (none, c.requires.usable, omega (arith, ints), omega (arith, ints))
+loop-left-init c = record { fillings = none; usable = c.requires.usable; low = omega (arith, ints); high = omega (arith, ints) }
 
 pub remaining-left-requires : goal.remaining-left-requires
 remaining-left-requires c =
     let f = c.in-Ok.ensures in
     let s = fills_some _ _ _ _ _ _ _ _ f (at_least c.args.least c.ranges.least c.requires.least) in
     let m = fills_most _ _ _ _ _ _ _ _ f in
-    let k = small _ c.args.amount c.ranges.amount c.loop-left.invariant.3 c.requires.small in
+    let k = small _ c.args.amount c.ranges.amount c.loop-left.invariant.high c.requires.small in
     record { low = some_passed _ c.in-Ok.x s m k; high = most_passed _ c.in-Ok.x s m k }
 
 pub loop-left-smaller : goal.loop-left-smaller
@@ -44,7 +44,7 @@ loop-left-smaller c =
     let f = c.in-Ok.ensures in
     let s = fills_some _ _ _ _ _ _ _ _ f (at_least c.args.least c.ranges.least c.requires.least) in
     let m = fills_most _ _ _ _ _ _ _ _ f in
-    let k = small _ c.args.amount c.ranges.amount c.loop-left.invariant.3 c.requires.small in
+    let k = small _ c.args.amount c.ranges.amount c.loop-left.invariant.high c.requires.small in
     falls c.remaining-left.result _ c.in-Ok.x c.remaining-left.ensures s m k
 
 pub loop-left-preserved : goal.loop-left-preserved
@@ -53,13 +53,14 @@ loop-left-preserved c =
     let h = at_least c.args.least c.ranges.least c.requires.least in
     let s = fills_some _ _ _ _ _ _ _ _ f h in
     let m = fills_most _ _ _ _ _ _ _ _ f in
-    let k = small _ c.args.amount c.ranges.amount c.loop-left.invariant.3 c.requires.small in
+    let k = small _ c.args.amount c.ranges.amount c.loop-left.invariant.high c.requires.small in
     let e = less c.remaining-left.result _ c.in-Ok.x c.remaining-left.ensures s m k in
     let least = to_z w32 (of_z w32 c.args.least) in
-    let amount = to_z w32 (of_z w32 c.args.amount) in (
-      subst (λ t. Fillings c.args.lines.now c.args.payer c.args.payee least amount c.args.plan.now t c.fill_next.new.plan) (sym e)
-          (fills_more _ _ _ _ _ _ _ _ f amount c.args.plan.now c.loop-left.invariant.0),
-      fills_usable _ _ _ _ _ _ _ _ f c.loop-left.invariant.1 h,
-      subst (λ t. pos 0 ≤ℤ t) (sym e) (omega (arith, ints, s, m)),
-      subst (λ t. t ≤ℤ amount) (sym e) (omega (arith, ints, s, c.loop-left.invariant.3)),
-    )
+    let amount = to_z w32 (of_z w32 c.args.amount) in
+    record {
+      fillings = subst (λ t. Fillings c.args.lines.now c.args.payer c.args.payee least amount c.args.plan.now t c.fill_next.new.plan) (sym e)
+          (fills_more _ _ _ _ _ _ _ _ f amount c.args.plan.now c.loop-left.invariant.fillings);
+      usable = fills_usable _ _ _ _ _ _ _ _ f c.loop-left.invariant.usable h;
+      low = subst (λ t. pos 0 ≤ℤ t) (sym e) (omega (arith, ints, s, m));
+      high = subst (λ t. t ≤ℤ amount) (sym e) (omega (arith, ints, s, c.loop-left.invariant.high));
+    }
