@@ -1,22 +1,24 @@
 -- Laws of the grammar's definitions.
-use Rattle.std.proofs.Common.{◌≡◌, ℕ, eqb, ◌⊎◌, List, [], ◌∷◌, ◌++◌, Some, None, Option, sym, refl, ap, ◌∙◌, inl, inr, ⊎_elim, Bor, MatchOption}
-use Rattle.std.specs.Option.{option_map}
-use Rattle.std.proofs.lemmas.Bool.{cases_Bool, cond-true, cond-false, eqb-true, eq-eqb}
-use Rattle.batch.specs.Grammar.{after}
+use Rattle.std.proofs.Common.{◌≡◌, ℕ, cond, false, eqb, List, [], ◌∷◌, length, get_or, take, drop, codes, Some, None, refl, ap, ⊎_elim, arith}
+use Rattle.std.specs.Str.{bytes_eq}
+use Rattle.std.proofs.lemmas.Slice.Eq.{bytes_eq-Decides}
+use Rattle.std.proofs.lemmas.Bool.{cases_Bool}
+use Rattle.batch.specs.Grammar.{after, fixed_of}
 
-pub after_front : (p rest : List ℕ) → after p (p ++ rest) ≡ Some rest
-after_front [] rest = refl
-after_front (c ∷ p) rest = cond-true _ _ _ (eq-eqb c c refl) ∙ after_front p rest
+-- `after` by a test of the front
+pub after_test : (p s : List ℕ) → after p s ≡ cond (bytes_eq (take (length p) s) p) (Some (drop (length p) s)) None
+after_test [] s = refl
+after_test (c ∷ p) [] = refl
+after_test (c ∷ p) (b ∷ s) = ⊎_elim (λ e. rw e (after_test p s)) (λ e. rw e refl) (cases_Bool (eqb b c))
 
-pub after_cases : (p s : List ℕ) → (after p s ≡ None) ⊎ ((rest : List ℕ) × (s ≡ p ++ rest))
-after_cases [] s = inr (s, refl)
-after_cases (c ∷ p) [] = inl refl
-after_cases (c ∷ p) (b ∷ s) =
-    ⊎_elim
-    (λ e. ⊎_elim (λ none. inl (cond-true _ _ _ e ∙ none)) (λ x. let h = eqb-true b c e in let k = x.1 in inr (x.0, cc)) (after_cases p s))
-    (λ e. inl (cond-false _ _ _ e))
-    (cases_Bool (eqb b c))
-
-pub after_is : (r : Option (Bor (List ℕ))) (p s : List ℕ) → MatchOption r ((rest : List ℕ) → s ≡ p ++ rest → ⊥) (λ x. s ≡ p ++ x.now) → option_map (λ x. x.now) r ≡ after p s
-after_is None p s h = ⊎_elim (λ e. sym e) (λ x. absurd (h x.0 x.1)) (after_cases p s)
-after_is (Some x) p s h = sym (ap (after p) h ∙ after_front p x.now)
+-- a text of 15 bytes that differs from the one name of that length at i, and from the other at j
+pub no_route : (bs : List ℕ) (i j : ℕ) → length bs ≡ 15 → (get_or bs i 0 ≡ get_or (codes "(route breadth)") i 0 → ⊥) → (get_or bs j 0 ≡ get_or (codes "(route scaling)") j 0 → ⊥) → None ≡ fixed_of bs
+no_route bs i j len b s =
+    let other : (t : List ℕ) → (bs ≡ t → ⊥) → bytes_eq bs t ≡ false = λ t n. ⊎_elim (λ e. absurd (n ((bytes_eq-Decides bs t).0 e))) (λ e. e) (cases_Bool (bytes_eq bs t)) in
+    let tidy = other (codes "(tidy)") (λ e. absurd (omega (arith, len, ap length e))) in
+    let breadth = other (codes "(route breadth)") (λ e. b (ap (λ x. get_or x i 0) e)) in
+    let scaling = other (codes "(route scaling)") (λ e. s (ap (λ x. get_or x j 0) e)) in
+    let kept = other (codes "(route kept)") (λ e. absurd (omega (arith, len, ap length e))) in
+    let all = other (codes "(all") (λ e. absurd (omega (arith, len, ap length e))) in
+    let close = other (codes ")") (λ e. absurd (omega (arith, len, ap length e))) in
+    simp (tidy, breadth, scaling, kept, all, close)

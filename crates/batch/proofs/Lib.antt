@@ -1,9 +1,5 @@
-pub mod Cuts
-pub mod Grammars
+pub mod Digits
 pub mod Rows
+pub mod Grammars
 pub mod Lines
-pub mod Sizes
-pub mod Joins
 pub mod Shorts
-pub mod Remarks
-pub mod Wholes

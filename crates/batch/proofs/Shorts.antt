@@ -1,17 +1,9 @@
--- Every sheet line fits a draft.
-use Rattle.std.proofs.Common.{ℕ, zero, suc, ◌+◌, ◌*◌, ◌^◌, ◌<◌, ◌≤◌, length, ℤ, decimal, ⊎_elim, arith, length-append, w32, SFits}
-use lib.Signed.{mag}
-use Rattle.std.specs.Fmt.{signed_decimal}
-use Rattle.std.proofs.lemmas.Fmt.{length-decimal-le, length_signed_le}
+-- The members of a group, listed, take at most 192 bytes.
+use Rattle.std.proofs.Common.{ℕ, zero, suc, ◌+◌, ◌*◌, ◌≤◌, length, decimal, ⊎_elim, arith, length-append}
+use Rattle.std.proofs.lemmas.Fmt.{length-decimal-le}
 use Rattle.std.proofs.lemmas.Bool.{cases_Bool}
 use Rattle.members.specs.Groups.{inside, members_from, members_of}
 use Rattle.batch.specs.Sheets.{listed}
-
-pub number : (n : ℕ) → n < 2 ^ 64 → length (decimal n) ≤ 20
-number n h = length-decimal-le 20 n (omega arith) (omega arith) h
-
-pub integer : (z : ℤ) → SFits w32 z → length (signed_decimal z) ≤ 11
-integer z h = let m : mag z < 2 ^ 31 = h.sfits in length_signed_le 10 z (omega arith) (omega arith)
 
 members : (k m g : ℕ) → m + k ≤ 64 → length (listed (members_from k m g)) ≤ 3 * k
 unfolding members_from

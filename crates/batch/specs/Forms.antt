@@ -1,5 +1,6 @@
 -- The form that a line is.
 use Rattle.std.specs.Prelude.{ℕ, cond, List, length, pos, Some, None, Ok, Err, codes, Option, Result, nat_lt, slice_index}
+use Rattle.credit.specs.declared.payment.Payment.{Payment}
 use Rattle.credit.specs.declared.refusal.Refusal.{Refusal}
 use Rattle.credit.specs.declared.refusal.Refusal.TheVariants.{LineTooLong, UnknownForm}
 use Rattle.batch.specs.declared.form.Form.{Form}
@@ -8,7 +9,7 @@ use Rattle.batch.specs.Grammar.{fixed_of, after}
 use Rattle.batch.specs.Parts.{parts_of}
 
 -- f of the numbers, unless they are refused
-abbrev pub filled : (List ℕ → Form) → Result (List ℕ) Refusal → Result Form Refusal
+abbrev pub filled : {A : Type 0} → (List ℕ → A) → Result (List ℕ) Refusal → Result A Refusal
 filled f (Ok ns) = Ok (f ns)
 filled f (Err e) = Err e
 
@@ -20,11 +21,14 @@ word_or k f (Some rest) else = filled f (parts_of k rest)
 abbrev pub line_of : List ℕ → Form
 line_of ns = Line (slice_index ns 0) (slice_index ns 1) (pos (slice_index ns 2)) (pos (slice_index ns 3))
 
+abbrev pub payment_of : List ℕ → Payment
+payment_of ns = record { payer = slice_index ns 0; payee = slice_index ns 1; amount = pos (slice_index ns 2) }
+
 abbrev pub pay_of : List ℕ → Form
-pay_of ns = Pay (slice_index ns 0) (slice_index ns 1) (pos (slice_index ns 2))
+pay_of ns = Pay (payment_of ns)
 
 abbrev pub try_of : List ℕ → Form
-try_of ns = Try (slice_index ns 0) (slice_index ns 1) (pos (slice_index ns 2))
+try_of ns = Try (payment_of ns)
 
 abbrev pub worded_of : List ℕ → Result Form Refusal
 worded_of bs =

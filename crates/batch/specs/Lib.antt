@@ -4,6 +4,5 @@ pub mod Grammar
 pub mod Parts
 pub mod Forms
 pub mod Reads
-pub mod Drafts
 pub mod Sheets
 pub mod Samples

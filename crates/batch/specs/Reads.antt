@@ -1,6 +1,5 @@
 -- What a reader hands out.
-use Rattle.std.specs.Prelude.{◌≡◌, ℕ, suc, cond, List, [], ◌∷◌, drop, Some, None, Option, MatchOption, ◌==◌}
-use Rattle.std.specs.Borrow.{Bor}
+use Rattle.std.specs.Prelude.{ℕ, suc, cond, List, [], ◌∷◌, Some, None, Option, ◌==◌}
 use Rattle.batch.specs.declared.reader.Reader.{Reader}
 use Rattle.batch.specs.declared.reader.Step.{Step}
 use Rattle.batch.specs.Forms.{form_of}
@@ -21,7 +20,7 @@ steps_of batch = numbered 0 (lines_of batch)
 
 -- what a reader has yet to hand out
 abbrev pub left : Reader → List Step
-left r = numbered r.line (lines_of (drop r.at r.batch.now))
+left r = numbered r.line (lines_of r.rest.now)
 
 abbrev pub head_of : List Step → Option Step
 head_of [] = None
@@ -30,8 +29,3 @@ head_of (s ∷ ss) = Some s
 abbrev pub tail_of : List Step → List Step
 tail_of [] = []
 tail_of (s ∷ ss) = ss
-
--- a reader went past a line, or stays where there is none
-pub record Passed (from : Reader) (line : Option (Bor (List ℕ))) (to : Reader) : Type 0 where
-  pub same : to.batch ≡ from.batch
-  pub cases : MatchOption line ((left from ≡ []) × (left to ≡ [])) (λ text. left from ≡ record { line = to.line; form = form_of text.now } ∷ left to)

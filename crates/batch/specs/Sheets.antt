@@ -1,6 +1,7 @@
 -- The text of each line of a sheet, with its line feed, and its way into a buffer.
 use Rattle.std.specs.Prelude.{ℕ, cond, List, [], ◌∷◌, ◌++◌, length, drop, Ok, Err, codes, decimal, Result, nat_lt}
 use Rattle.std.specs.Fmt.{signed_decimal}
+use Rattle.std.specs.List.{flat_map}
 use Rattle.members.specs.Groups.{members_of}
 use Rattle.credit.specs.declared.refusal.Refusal.{Refusal}
 use Rattle.credit.specs.declared.refusal.Refusal.TheVariants.{LineTooLong, UnknownForm, WrongParts, NotANumber, NoSuchMember, SameMember, OutOfRange, ReservationStands, Spoiled, PairHasLine, TooManyLines, SavepointOpen, TooManySavepoints, NoSavepoint, NoSuchReservation, WantOfRoom, BadPlanSheet, LeftOpen, BufferTooShort, BatchTooLong}
@@ -51,8 +52,7 @@ line_text End = codes "(end)" ++ (10 ∷ [])
 
 -- the whole text of a sheet: the lines' texts one after another
 abbrev pub sheet_text : List SheetLine → List ℕ
-sheet_text [] = []
-sheet_text (x ∷ xs) = line_text x ++ sheet_text xs
+sheet_text = flat_map line_text
 
 -- the answer of a writing of the text into the buffer: its length, or that the buffer is too short
 abbrev pub answer_of : List ℕ → List ℕ → Result ℕ Refusal

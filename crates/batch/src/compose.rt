@@ -1,118 +1,161 @@
 // The text of a sheet line, and its way into a lent buffer.
-ghost use Rattle.std.specs.Prelude.{◌≡◌, ◌≤◌, ◌++◌, length, Ok, codes, decimal};
+ghost use Rattle.std.specs.Prelude.{◌≡◌, ◌+◌, ◌≤◌, ◌++◌, length, Some, Ok, codes, decimal};
 ghost use Rattle.std.specs.Fmt.{signed_decimal};
+ghost use Rattle.arrayvec.specs.ArrayString.{array_string_len};
 ghost use Rattle.members.specs.Groups.{members_of};
 ghost use Rattle.credit.specs.Refusals.{number_of};
-ghost use Rattle.batch.specs.Drafts.{written, Adds};
 ghost use Rattle.batch.specs.Sheets.{line_text, close, listed, remark as told, answer_of, filled_by};
 
-use crate::draft::Draft;
-use crate::sheet::SheetLine;
+use crate::sheet::{MAX_LINE, SheetLine};
+use arrayvec::ArrayString;
 use credit::refusal::Refusal;
+use itoa::{Buffer, Integer};
 use members::group::Group;
+use std::fmt;
 
-// One number after a word.
-fn word_number(d: &mut Draft, word: &[u8], n: usize)
-    ensures { Adds (written d.old) (word.now ++ (decimal n ++ close)) (written d.new) }
+// A line that is being put together, in fixed memory. `write!` is not for it: of a write that fails std says no reason.
+type Text = ArrayString<MAX_LINE>;
+
+// Adds a number in decimal digits.
+fn add_number<I: Integer>(text: &mut Text, n: I)
+    requires { array_string_len text.old + I.MAX_STR_LEN ≤ 256 }
+    ensures bytes { text.new.bytes ≡ text.old.bytes ++ I.text n }
+    ensures len { array_string_len text.new ≤ array_string_len text.old + I.MAX_STR_LEN }
 {
-    d.text(word);
-    d.number(n as u64);
-    d.text(b")\n");
+    text.push_str(Buffer::new().format(n));
 }
 
-// A space and the number of each member of the group, rising.
-fn members(d: &mut Draft, group: Group)
-    ensures { Adds (written d.old) (listed (members_of group.bits)) (written d.new) }
+// A line that begins with the word.
+fn begun(word: &str) -> Text
+    requires { length word.now ≤ 8 }
+    ensures { result.bytes ≡ word.now }
+{
+    let mut text = Text::new();
+    text.push_str(word);
+    text
+}
+
+// A word with one number.
+fn numbered(word: &str, n: usize) -> Text
+    requires { length word.now ≤ 8 }
+    ensures bytes { result.bytes ++ close ≡ word.now ++ (decimal n ++ close) }
+    ensures len { array_string_len result ≤ 28 }
+{
+    let mut text = begun(word);
+    add_number(&mut text, n);
+    text
+}
+
+fn net(member: u32, net: i32) -> Text
+    ensures bytes { result.bytes ++ close ≡ codes "(net " ++ (decimal member ++ (codes " " ++ (signed_decimal net ++ close))) }
+    ensures len { array_string_len result ≤ 30 }
+{
+    let mut text = begun("(net ");
+    add_number(&mut text, member);
+    text.push_str(" ");
+    add_number(&mut text, net);
+    text
+}
+
+fn debt(a: u32, b: u32, debt: i32) -> Text
+    ensures bytes { result.bytes ++ close ≡ codes "(debt " ++ (decimal a ++ (codes " " ++ (decimal b ++ (codes " " ++ (signed_decimal debt ++ close))))) }
+    ensures len { array_string_len result ≤ 40 }
+{
+    let mut text = begun("(debt ");
+    add_number(&mut text, a);
+    text.push_str(" ");
+    add_number(&mut text, b);
+    text.push_str(" ");
+    add_number(&mut text, debt);
+    text
+}
+
+// Adds a space and the number of each member of the group, rising.
+#[tactic(auto, using(crate::proofs::Shorts::group))]
+fn add_members(text: &mut Text, group: Group)
+    requires { array_string_len text.old ≤ 47 }
+    ensures bytes { text.new.bytes ≡ text.old.bytes ++ listed (members_of group.bits) }
+    ensures len { array_string_len text.new ≤ array_string_len text.old + 192 }
 {
     for member in group.walk() {
-        d.text(b" ");
-        d.number(member as u64);
+        text.push_str(" ");
+        add_number(text, member);
     }
 }
 
-// What a refusal tells beside its number.
-fn remark(d: &mut Draft, refusal: Refusal)
-    ensures text { Adds (written d.old) (told refusal) (written d.new) }
-    ensures fits { length (told refusal) ≤ 204 }
+// Adds what a refusal tells beside its number.
+fn add_remark(text: &mut Text, refusal: Refusal)
+    requires { array_string_len text.old ≤ 35 }
+    ensures bytes { text.new.bytes ≡ text.old.bytes ++ told refusal }
+    ensures len { array_string_len text.new ≤ array_string_len text.old + 204 }
 {
-    match refusal {
-        Refusal::WantOfRoom { group, room } => {
-            d.text(b" ");
-            d.signed(room);
-            members(d, group);
-        }
-        _ => {}
+    if let Refusal::WantOfRoom { group, room } = refusal {
+        text.push_str(" ");
+        add_number(text, room);
+        add_members(text, group);
     }
 }
 
 // A refused line: its number, the refusal's number, and what that tells.
-fn refused(d: &mut Draft, line: usize, refusal: Refusal)
-    ensures text { Adds (written d.old) (codes "(no " ++ (decimal line ++ (codes " " ++ (decimal (number_of refusal) ++ (told refusal ++ close))))) (written d.new) }
-    ensures fits { length (decimal (number_of refusal) ++ told refusal) ≤ 224 }
+fn refused(line: usize, refusal: Refusal) -> Text
+    ensures bytes { result.bytes ++ close ≡ codes "(no " ++ (decimal line ++ (codes " " ++ (decimal (number_of refusal) ++ (told refusal ++ close)))) }
+    ensures len { array_string_len result ≤ 239 }
 {
-    d.text(b"(no ");
-    d.number(line as u64);
-    d.text(b" ");
-    d.number(refusal.number() as u64);
-    remark(d, refusal);
-    d.text(b")\n");
-}
-
-fn net(d: &mut Draft, member: u32, net: i32)
-    ensures { Adds (written d.old) (codes "(net " ++ (decimal member ++ (codes " " ++ (signed_decimal net ++ close)))) (written d.new) }
-{
-    d.text(b"(net ");
-    d.number(member as u64);
-    d.text(b" ");
-    d.signed(net);
-    d.text(b")\n");
-}
-
-fn debt(d: &mut Draft, a: u32, b: u32, debt: i32)
-    ensures { Adds (written d.old) (codes "(debt " ++ (decimal a ++ (codes " " ++ (decimal b ++ (codes " " ++ (signed_decimal debt ++ close)))))) (written d.new) }
-{
-    d.text(b"(debt ");
-    d.number(a as u64);
-    d.text(b" ");
-    d.number(b as u64);
-    d.text(b" ");
-    d.signed(debt);
-    d.text(b")\n");
-}
-
-// The text of a sheet line, with its line feed.
-fn line(d: &mut Draft, x: SheetLine)
-    ensures text { Adds (written d.old) (line_text x) (written d.new) }
-    ensures fits { length (line_text x) ≤ 256 }
-{
-    match x {
-        SheetLine::Done { line: n } => word_number(d, b"(ok ", n),
-        SheetLine::Kept { line: n } => word_number(d, b"(kept ", n),
-        SheetLine::Undone { line: n } => word_number(d, b"(undone ", n),
-        SheetLine::Refused { line: n, refusal } => refused(d, n, refusal),
-        SheetLine::Net { member, net: n } => net(d, member, n),
-        SheetLine::Debt { a, b, debt: n } => debt(d, a, b, n),
-        SheetLine::End => d.text(b"(end)\n"),
-    }
-}
-
-// The whole text of a sheet line, as a draft of its own.
-pub(crate) fn composed(x: SheetLine) -> Draft
-    ensures text { written result ≡ line_text x }
-    ensures fits { length (line_text x) ≤ 256 }
-{
-    let mut d = Draft::new();
-    line(&mut d, x);
-    d
+    let mut text = begun("(no ");
+    add_number(&mut text, line);
+    text.push_str(" ");
+    add_number(&mut text, refusal.number());
+    add_remark(&mut text, refusal);
+    text
 }
 
 impl SheetLine {
+    // The line up to its closing bracket.
+    fn open(&self) -> Text
+        ensures bytes { result.bytes ++ close ≡ line_text self.now }
+        ensures len { array_string_len result ≤ 239 }
+    {
+        match *self {
+            SheetLine::Done { line } => numbered("(ok ", line),
+            SheetLine::Kept { line } => numbered("(kept ", line),
+            SheetLine::Undone { line } => numbered("(undone ", line),
+            SheetLine::Refused { line, refusal } => refused(line, refusal),
+            SheetLine::Net { member, net: n } => net(member, n),
+            SheetLine::Debt { a, b, debt: n } => debt(a, b, n),
+            SheetLine::End => begun("(end"),
+        }
+    }
+
+    // The line with its line feed.
+    fn text(&self) -> Text
+        ensures { result.bytes ≡ line_text self.now }
+    {
+        let mut text = self.open();
+        text.push_str(")\n");
+        text
+    }
+
     // Writes the line and its line feed to the front of the buffer, no byte more, and answers their length.
     pub fn write(&self, buffer: &mut [u8]) -> Result<usize, Refusal>
         ensures value { result ≡ answer_of (line_text self.now) buffer.old }
         ensures after { buffer.new ≡ filled_by (line_text self.now) buffer.old }
         ensures always { 256 ≤ length buffer.old → result ≡ Ok (length (line_text self.now)) }
     {
-        composed(*self).copy_to(buffer)
+        let text = self.text();
+        let bytes = text.as_str().as_bytes();
+        let n = bytes.len();
+        if buffer.len() < n {
+            return Err(Refusal::BufferTooShort);
+        }
+        buffer[..n].copy_from_slice(bytes);
+        Ok(n)
+    }
+}
+
+impl fmt::Display for SheetLine {
+    ghost output = { λ x. Some (line_text x) };
+
+    fn fmt<W: fmt::Write>(&self, f: &mut fmt::Formatter<W>) -> fmt::Result {
+        f.write_str(self.text().as_str())
     }
 }

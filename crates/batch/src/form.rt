@@ -1,4 +1,6 @@
 // A form of a batch: one line of it, read.
+use credit::payment::Payment;
+
 #[derive(Clone, Copy, Debug, PartialEq, Eq)]
 pub enum Form {
     // the first trusts the second for `trust`, and the second the first for `back`
@@ -8,16 +10,9 @@ pub enum Form {
         trust: i32,
         back: i32,
     },
-    Pay {
-        payer: u32,
-        payee: u32,
-        amount: i32,
-    },
-    Try {
-        payer: u32,
-        payee: u32,
-        amount: i32,
-    },
+    Pay(Payment),
+    // whether the payment could be made
+    Try(Payment),
     Tidy,
     // the router that serves the lines after it
     Route(Choice),

@@ -2,7 +2,6 @@
 #![tactic(auto)]
 
 pub mod compose;
-mod draft;
 mod fixed;
 pub mod form;
 mod parts;

@@ -1,59 +1,43 @@
 // The parts of a form, between its word and the last bracket.
-ghost use Rattle.std.specs.Prelude.{◌≡◌, length};
+ghost use Rattle.std.specs.Prelude.{◌≡◌, ◌<◌, length, All, OnSome, IfOk};
+ghost use Rattle.std.specs.Option.{option_map};
 ghost use Rattle.batch.specs.Pieces.{cut};
 ghost use Rattle.batch.specs.Parts.{numbers_of, parts_of};
 
 use crate::fixed::unclosed;
-use crate::scan::{find, number};
+use crate::scan::number;
 use credit::refusal::Refusal;
 
 // How many pieces the bytes are cut into at each `stop`.
 fn count(bytes: &[u8], stop: u8) -> usize
     ensures { result ≡ length (cut stop bytes.now) }
 {
-    let mut n: usize = 1;
-    for b in bytes {
-        if *b == stop {
-            n += 1;
-        }
-    }
-    n
+    bytes.split(|b| *b == stop).count()
 }
 
-// The numbers between the spaces, of which there are as many as `N` asks for.
-fn numbers<const N: usize>(body: &[u8]) -> Option<[u32; N]>
-    requires { length (cut 32 body.now) ≡ N }
-    ensures { result ≡ numbers_of (cut 32 body.now) }
+// Reads the numbers between the spaces, of which there are as many as places.
+fn read(body: &[u8], places: &mut [u32]) -> Option<()>
+    requires { length (cut 32 body.now) ≡ length places.old }
+    ensures value { option_map (λ _. places.new) result ≡ numbers_of (cut 32 body.now) }
+    ensures small { OnSome result (All (λ n. n < 10000000) places.new) }
 {
-    let mut out = [0u32; N];
-    let mut rest = body;
-    for k in 0..N {
-        let len = find(rest, b' ');
-        match number(&rest[0..len]) {
-            None => return None,
-            Some(n) => out[k] = n,
-        }
-        rest = if len < rest.len() {
-            &rest[len + 1..]
-        } else {
-            rest
-        };
+    // by place: a proof knows nothing of what is written through a zip, and std collects into no array
+    for (k, part) in body.split(|b| *b == b' ').enumerate() {
+        places[k] = number(part)?;
     }
-    Some(out)
+    Some(())
 }
 
 // The numbers of a form, after its word and one space.
 pub(crate) fn parts<const N: usize>(rest: &[u8]) -> Result<[u32; N], Refusal>
-    ensures { result ≡ parts_of N rest.now }
+    ensures value { result ≡ parts_of N rest.now }
+    ensures small { IfOk result (All (λ n. n < 10000000)) }
 {
-    let Some(body) = unclosed(rest) else {
-        return Err(Refusal::WrongParts);
-    };
+    let body = unclosed(rest).ok_or(Refusal::WrongParts)?;
     if count(body, b' ') != N {
         return Err(Refusal::WrongParts);
     }
-    match numbers::<N>(body) {
-        Some(ns) => Ok(ns),
-        None => Err(Refusal::NotANumber),
-    }
+    let mut numbers = [0; N];
+    read(body, &mut numbers).ok_or(Refusal::NotANumber)?;
+    Ok(numbers)
 }

@@ -1,17 +1,15 @@
 // A cursor over the bytes of a batch, which hands out one form a step.
-ghost use Rattle.std.specs.Prelude.{◌≤◌, length};
+ghost use Rattle.std.specs.Prelude.{◌+◌, ◌^◌, ◌<◌, length};
 
 use crate::form::Form;
 use credit::refusal::Refusal;
 
-// `at` bytes and `line` lines of the batch are read.
+// `line` lines of the batch are read, and `rest` is not.
 #[derive(Drop)]
 pub struct Reader<'a> {
-    batch: &'a [u8],
-    at: usize,
+    rest: &'a [u8],
     line: usize,
-    ghost inside: { at ≤ length batch.now },
-    ghost counted: { line ≤ at },
+    ghost counted: { line + length rest.now < 2 ^ 64 },
 }
 
 // A form, or why the line is none, with its line number from 1.

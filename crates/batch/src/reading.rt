@@ -1,22 +1,36 @@
 // Reading a line of a batch.
 ghost use Rattle.std.specs.Prelude.{◌≡◌};
-ghost use Rattle.batch.specs.Forms.{form_of, shape_of, worded_of};
+ghost use Rattle.batch.specs.Forms.{form_of, shape_of, worded_of, payment_of, filled};
+ghost use Rattle.batch.specs.Parts.{parts_of};
 
 use crate::fixed::{fixed, past};
 use crate::form::Form;
 use crate::parts::parts;
+use credit::payment::Payment;
 use credit::refusal::Refusal;
 
 // The most bytes of a line, its line feed apart.
 pub const LONGEST_LINE: usize = 40;
+
+// The payment that the three parts of a form write.
+fn payment(rest: &[u8]) -> Result<Payment, Refusal>
+    ensures { result ≡ filled payment_of (parts_of 3 rest.now) }
+{
+    let [payer, payee, amount] = parts::<3>(rest)?;
+    // it has at most seven digits: `try_from` would bring an error that cannot come
+    Ok(Payment {
+        payer,
+        payee,
+        amount: amount as i32,
+    })
+}
 
 // A form that starts with a word and one space.
 fn worded(line: &[u8]) -> Result<Form, Refusal>
     ensures { result ≡ worded_of line.now }
 {
     if let Some(rest) = past(line, b"(line ") {
-        let ns = parts::<4>(rest)?;
-        let [first, second, trust, back] = ns;
+        let [first, second, trust, back] = parts::<4>(rest)?;
         return Ok(Form::Line {
             first,
             second,
@@ -25,27 +39,16 @@ fn worded(line: &[u8]) -> Result<Form, Refusal>
         });
     }
     if let Some(rest) = past(line, b"(pay ") {
-        let ns = parts::<3>(rest)?;
-        let [payer, payee, amount] = ns;
-        return Ok(Form::Pay {
-            payer,
-            payee,
-            amount: amount as i32,
-        });
+        return Ok(Form::Pay(payment(rest)?));
     }
     if let Some(rest) = past(line, b"(try ") {
-        let ns = parts::<3>(rest)?;
-        let [payer, payee, amount] = ns;
-        return Ok(Form::Try {
-            payer,
-            payee,
-            amount: amount as i32,
-        });
+        return Ok(Form::Try(payment(rest)?));
     }
     Err(Refusal::UnknownForm)
 }
 
 // The form of a line of any length.
+#[tactic(auto, unfolding(crate::specs::Forms::shape_of))]
 fn shape(line: &[u8]) -> Result<Form, Refusal>
     ensures { result ≡ shape_of line.now }
 {

@@ -1,4 +1,4 @@
-// The answers of the ledger's calls as plain values.
+// What the ledger's calls return as plain answers.
 ghost use Rattle.std.specs.Prelude.{◌≡◌};
 ghost use Rattle.calls.specs.Answers.{done_or, closed_or};
 
@@ -6,22 +6,26 @@ use crate::call::{Answer, Closing};
 use credit::refusal::Refusal;
 
 // The answer of a call that answers nothing more where it is accepted.
-pub fn done_or(res: Result<(), Refusal>) -> Answer
-    ensures { result ≡ done_or res }
-{
-    match res {
-        Ok(()) => Answer::Done,
-        Err(refusal) => Answer::Refused(refusal),
+impl From<Result<(), Refusal>> for Answer {
+    ghost from_gives = { λ res answer. answer ≡ done_or res };
+
+    fn from(res: Result<(), Refusal>) -> Answer {
+        match res {
+            Ok(()) => Answer::Done,
+            Err(refusal) => Answer::Refused(refusal),
+        }
     }
 }
 
 // The answer of a call that closes a group of payments.
-pub fn closed_or(res: Result<Closing, Refusal>) -> Answer
-    ensures { result ≡ closed_or res }
-{
-    match res {
-        Ok(Closing::Kept) => Answer::Kept,
-        Ok(Closing::Undone) => Answer::Undone,
-        Err(refusal) => Answer::Refused(refusal),
+impl From<Result<Closing, Refusal>> for Answer {
+    ghost from_gives = { λ res answer. answer ≡ closed_or res };
+
+    fn from(res: Result<Closing, Refusal>) -> Answer {
+        match res {
+            Ok(Closing::Kept) => Answer::Kept,
+            Ok(Closing::Undone) => Answer::Undone,
+            Err(refusal) => Answer::Refused(refusal),
+        }
     }
 }

@@ -1,8 +1,9 @@
 // The calls on a ledger and their answers, as plain values.
+use credit::payment::Payment;
 use credit::refusal::Refusal;
 
-// A call. A plan sheet counts by its number of places alone, a reservation by its three numbers.
-#[derive(Clone, Copy, Debug)]
+// A call. A plan sheet counts by its number of places alone, a reservation by its payment.
+#[derive(Clone, Copy, Debug, PartialEq, Eq)]
 pub enum Call {
     Open {
         first: u32,
@@ -12,27 +13,17 @@ pub enum Call {
     },
     Pay {
         places: usize,
-        payer: u32,
-        payee: u32,
-        amount: i32,
+        payment: Payment,
     },
     Reserve {
         places: usize,
-        payer: u32,
-        payee: u32,
-        amount: i32,
+        payment: Payment,
     },
     Book {
         places: usize,
-        payer: u32,
-        payee: u32,
-        amount: i32,
+        payment: Payment,
     },
-    Release {
-        payer: u32,
-        payee: u32,
-        amount: i32,
-    },
+    Release(Payment),
     Begin,
     End,
     Abandon,
@@ -40,10 +31,10 @@ pub enum Call {
 }
 
 // What a call answers.
-#[derive(Clone, Copy, Debug)]
+#[derive(Clone, Copy, Debug, PartialEq, Eq)]
 pub enum Answer {
     Done,
-    Reserved { payer: u32, payee: u32, amount: i32 },
+    Reserved(Payment),
     Released(bool),
     Kept,
     Undone,

@@ -1,4 +1,3 @@
-pub mod Stacked
 pub mod Stated
 pub mod Fairness
 pub mod Carrying

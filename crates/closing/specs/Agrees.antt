@@ -46,8 +46,8 @@ pub record Alike (s t : State) : Type 0 where
 -- a form apart from which router it picks
 abbrev pub unrouted : Form → Form
 unrouted (Line x y t u) = Line x y t u
-unrouted (Pay p q n) = Pay p q n
-unrouted (Try p q n) = Try p q n
+unrouted (Pay pay) = Pay pay
+unrouted (Try pay) = Try pay
 unrouted Tidy = Tidy
 unrouted (Route c) = Route Breadth
 unrouted All = All

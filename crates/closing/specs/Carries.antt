@@ -17,7 +17,7 @@ use Rattle.batch.specs.declared.sheet.SheetLine.TheVariants.{Done as DoneLine, K
 -- what an answer is on the sheet, for the form of line l
 abbrev pub printed : ℕ → Answer → SheetLine
 printed l Done = DoneLine l
-printed l (Reserved p q n) = DoneLine l
+printed l (Reserved pay) = DoneLine l
 printed l (Released b) = DoneLine l
 printed l Kept = KeptLine l
 printed l Undone = UndoneLine l
@@ -26,7 +26,7 @@ printed l (Refused e) = RefusedLine l e
 -- a reservation that was handed out is released; a refused one leaves all as it was
 abbrev pub LetGo : Answer → State → State → Type 0
 LetGo Done s s' = ⊥
-LetGo (Reserved p q n) s s' = Does s (Release p q n) (Released true) s'
+LetGo (Reserved pay) s s' = Does s (Release pay) (Released true) s'
 LetGo (Released b) s s' = ⊥
 LetGo Kept s s' = ⊥
 LetGo Undone s s' = ⊥
@@ -35,8 +35,8 @@ LetGo (Refused e) s s' = s' ≡ s
 -- one form carried out: the ledger before, the answer, the ledger after
 abbrev pub Serves : State → Form → Answer → State → Type 0
 Serves s (Line x y t u) r s' = Does s (Open x y t u) r s'
-Serves s (Pay p q n) r s' = Does s (PayCall 256 p q n) r s'
-Serves s (Try p q n) r s' = (held : State) × Does s (Reserve 256 p q n) r held × LetGo r held s'
+Serves s (Pay pay) r s' = Does s (PayCall 256 pay) r s'
+Serves s (Try pay) r s' = (held : State) × Does s (Reserve 256 pay) r held × LetGo r held s'
 Serves s Tidy r s' = Does s TidyCall r s'
 Serves s (Route c) r s' = (r ≡ Done) × (s' ≡ s)
 Serves s All r s' = Does s Begin r s'
@@ -45,8 +45,8 @@ Serves s Close r s' = Does s End r s'
 -- a form that picks a router: from then on that one serves
 abbrev pub Picking : Form → Choice → Type 0
 Picking (Line x y t u) c = Unit {0}
-Picking (Pay p q n) c = Unit {0}
-Picking (Try p q n) c = Unit {0}
+Picking (Pay pay) c = Unit {0}
+Picking (Try pay) c = Unit {0}
 Picking Tidy c = Unit {0}
 Picking (Route d) c = c ≡ d
 Picking All c = Unit {0}
@@ -56,8 +56,8 @@ Picking Close c = Unit {0}
 -- router changes nothing
 abbrev pub NextPick : Form → Choice → Choice → Type 0
 NextPick (Line x y t u) before after = after ≡ before
-NextPick (Pay p q n) before after = Unit {0}
-NextPick (Try p q n) before after = Unit {0}
+NextPick (Pay pay) before after = Unit {0}
+NextPick (Try pay) before after = Unit {0}
 NextPick Tidy before after = after ≡ before
 NextPick (Route c) before after = after ≡ c
 NextPick All before after = after ≡ before
@@ -66,7 +66,7 @@ NextPick Close before after = after ≡ before
 -- an answer that ends the batch: eight groups are open, or none is
 abbrev pub ends : Answer → Bool
 ends Done = false
-ends (Reserved p q n) = false
+ends (Reserved pay) = false
 ends (Released b) = false
 ends Kept = false
 ends Undone = false
@@ -74,7 +74,7 @@ ends (Refused e) = number_of e == 13 || number_of e == 14
 
 abbrev pub accepted : Answer → Bool
 accepted Done = true
-accepted (Reserved p q n) = true
+accepted (Reserved pay) = true
 accepted (Released b) = true
 accepted Kept = true
 accepted Undone = true
@@ -87,8 +87,8 @@ drop_first (l ∷ ls) = ls
 -- the lines of the `(all` of the open groups, the inmost first, once the form of line l is carried out
 abbrev pub marks_by : Form → ℕ → List ℕ → List ℕ
 marks_by (Line x y t u) l marks = marks
-marks_by (Pay p q n) l marks = marks
-marks_by (Try p q n) l marks = marks
+marks_by (Pay pay) l marks = marks
+marks_by (Try pay) l marks = marks
 marks_by Tidy l marks = marks
 marks_by (Route c) l marks = marks
 marks_by All l marks = l ∷ marks

@@ -1,7 +1,8 @@
 -- What the router of each choice does with a payment.
-use Rattle.std.specs.Prelude.{◌≡◌, ℕ, List, ℤ, Ok, Err, Result}
+use Rattle.std.specs.Prelude.{◌≡◌, List, ℤ, Ok, Err, Result}
 use Rattle.members.specs.declared.group.Group.{Group}
 use Rattle.credit.specs.declared.line.Line.{Line}
+use Rattle.credit.specs.declared.payment.Payment.{Payment}
 use Rattle.credit.specs.declared.refusal.Refusal.{Refusal}
 use Rattle.credit.specs.Refusals.{Verdict}
 use Rattle.routing.specs.Direct.{Directs}
@@ -13,10 +14,10 @@ use Rattle.batch.specs.declared.form.Choice.TheVariants.{Breadth, Scaling, Kept}
 use Rattle.closing.specs.Carries.{NextPick}
 
 -- direct first, scaling, or kept; before and after are the groups that kept remembers, of which the others touch none
-abbrev pub ServedBy : Choice → List Line → (p q : ℕ) → ℤ → List ℤ → List Group → Verdict → List ℤ → List Group → Type 0
-ServedBy Breadth ls p q n entry before r exit after = Directs ls p q n entry r exit × (after ≡ before)
-ServedBy Scaling ls p q n entry before r exit after = Scales ls p q n entry r exit × (after ≡ before)
-ServedBy Kept ls p q n entry before r exit after = Keeps ls p q n entry before r exit after
+abbrev pub ServedBy : Choice → List Line → Payment → List ℤ → List Group → Verdict → List ℤ → List Group → Type 0
+ServedBy Breadth ls pay entry before r exit after = Directs ls pay entry r exit × (after ≡ before)
+ServedBy Scaling ls pay entry before r exit after = Scales ls pay entry r exit × (after ≡ before)
+ServedBy Kept ls pay entry before r exit after = Keeps ls pay entry before r exit after
 
 -- which router is picked before a line of the batch and after it
 abbrev pub PicksAt : Result Form Refusal → Choice → Choice → Type 0

@@ -8,3 +8,4 @@ pub mod Agrees
 pub mod Lays
 pub mod Batches
 pub mod Samples
+pub mod Runs

@@ -1,15 +1,17 @@
 // Batches closed on a ledger.
-ghost use Rattle.std.specs.Prelude.{◌≡◌, ◌+◌, ◌≤◌, min, [], length, vec_capacity, MatchResult};
+ghost use Rattle.std.specs.Prelude.{◌≡◌, ◌+◌, ◌≤◌, min, [], length, vec_capacity};
 ghost use Rattle.ledger.specs.States.{state_of};
 ghost use Rattle.batch.specs.declared.form.Choice.TheVariants.{Breadth as ByBreadth};
 ghost use Rattle.routing.specs.Kept.{remembered};
-ghost use Rattle.closing.specs.Closes.{door_checks, Closes, Settled};
-ghost use Rattle.closing.specs.Batches.{Closing};
+ghost use Rattle.closing.specs.Closes.{door_checks, Carried};
+ghost use Rattle.closing.specs.Fairs.{Fair};
+ghost use Rattle.closing.specs.Batches.{Closing, ClosesOrStays};
 ghost use Rattle.closing.specs.Agrees.{SheetLaw};
 
-use crate::close::close_open;
 use crate::picking::Picks;
 use crate::routers::Routers;
+use crate::run::Run;
+use crate::statement::add_statement;
 use batch::sheet::SheetLine;
 use credit::refusal::Refusal;
 use ledger::state::Ledger;
@@ -39,6 +41,26 @@ fn door(ledger: &Ledger, batch: &[u8]) -> Result<(), Refusal>
     Ok(())
 }
 
+// Closes a batch that is past its door.
+fn close_open<R: Router + Picks>(
+    ledger: &mut Ledger,
+    router: &mut R,
+    batch: &[u8],
+    sheet: &mut Vec<SheetLine>,
+)
+    requires fair { Fair (state_of ledger.old) [] }
+    requires empty { sheet.old.items ≡ [] }
+    requires places { length batch.now + 329 ≤ vec_capacity sheet.old }
+    ensures carried { Carried (state_of ledger.old) batch.now sheet.new.items (state_of ledger.new) }
+    ensures fair { Fair (state_of ledger.new) [] }
+{
+    let mut run = Run::new(ledger, router);
+    run.carry_all(batch, sheet);
+    run.abandon_all(sheet);
+    let nets = ledger.net_positions();
+    add_statement(sheet, ledger.lines(), &nets);
+}
+
 // Closes a batch on an empty sheet that has places enough.
 fn close_into<R: Router + Picks>(
     ledger: &mut Ledger,
@@ -48,9 +70,7 @@ fn close_into<R: Router + Picks>(
 )
     requires empty { sheet.old.items ≡ [] }
     requires places { min (length batch.now) 32768 + 329 ≤ vec_capacity sheet.old }
-    ensures closes { Closes (state_of ledger.old) batch.now sheet.new.items (state_of ledger.new) }
-    ensures settled { Settled (state_of ledger.old) (state_of ledger.new) }
-    ensures closing { Closing (state_of ledger.old) batch.now sheet.new.items (state_of ledger.new) }
+    ensures { Closing (state_of ledger.old) batch.now sheet.new.items (state_of ledger.new) }
 {
     match door(ledger, batch) {
         Err(refusal) => sheet.push_reserved(SheetLine::Refused { line: 0, refusal }),
@@ -66,9 +86,7 @@ pub fn close_with<R: Router + Picks>(
     batch: &[u8],
     heap: Global,
 ) -> Result<Vec<SheetLine>, AllocError>
-    ensures closes { MatchResult result (λ sheet. Closes (state_of ledger.old) batch.now sheet.items (state_of ledger.new)) (λ _. state_of ledger.new ≡ state_of ledger.old) }
-    ensures settled { Settled (state_of ledger.old) (state_of ledger.new) }
-    ensures closing { MatchResult result (λ sheet. Closing (state_of ledger.old) batch.now sheet.items (state_of ledger.new)) (λ _. state_of ledger.new ≡ state_of ledger.old) }
+    ensures closing { ClosesOrStays (state_of ledger.old) batch.now result (state_of ledger.new) }
     ensures law { SheetLaw }
 {
     let mut sheet = Vec::with_capacity(heap, batch.len().min(LONGEST_BATCH) + OTHER_LINES)?;
@@ -85,7 +103,7 @@ fn close_afresh(
 ) -> Result<Vec<SheetLine>, AllocError>
     requires choice { routers.old.choice ≡ ByBreadth }
     requires memory { remembered routers.old.kept.memory ≡ [] }
-    ensures closing { MatchResult result (λ sheet. Closing (state_of ledger.old) batch.now sheet.items (state_of ledger.new)) (λ _. state_of ledger.new ≡ state_of ledger.old) }
+    ensures closing { ClosesOrStays (state_of ledger.old) batch.now result (state_of ledger.new) }
     ensures law { SheetLaw }
 {
     close_with(ledger, routers, batch, heap)
@@ -97,9 +115,7 @@ pub fn close_batch(
     batch: &[u8],
     heap: Global,
 ) -> Result<Vec<SheetLine>, AllocError>
-    ensures closes { MatchResult result (λ sheet. Closes (state_of ledger.old) batch.now sheet.items (state_of ledger.new)) (λ _. state_of ledger.new ≡ state_of ledger.old) }
-    ensures settled { Settled (state_of ledger.old) (state_of ledger.new) }
-    ensures closing { MatchResult result (λ sheet. Closing (state_of ledger.old) batch.now sheet.items (state_of ledger.new)) (λ _. state_of ledger.new ≡ state_of ledger.old) }
+    ensures closing { ClosesOrStays (state_of ledger.old) batch.now result (state_of ledger.new) }
     ensures law { SheetLaw }
 {
     close_afresh(ledger, &mut Routers::new(), batch, heap)

@@ -2,12 +2,11 @@
 #![tactic(auto)]
 
 pub mod batches;
-mod carry;
-mod close;
 mod marks;
 pub mod month;
 mod outcome;
 pub mod picking;
 pub mod routers;
+mod run;
 pub mod samples;
 mod statement;

@@ -1,22 +1,19 @@
-// For the run of a batch: what an answer is on the sheet, and what it does to the marks.
-ghost use Rattle.std.specs.Prelude.{◌≡◌, ◌<◌, true, length};
-ghost use Rattle.batch.specs.declared.form.Form.TheVariants.{All};
-ghost use Rattle.closing.specs.Marked.{marks_of};
-ghost use Rattle.closing.specs.Carries.{printed as line_of, ends as ends_batch, accepted as is_accepted, marks_after};
+// For the run of a batch: what an answer is on the sheet, and whether it ends the batch.
+ghost use Rattle.std.specs.Prelude.{◌≡◌, if◌then◌else◌};
+ghost use Rattle.std.specs.declared.ops.ControlFlow.TheVariants.{Continue, Break};
+ghost use Rattle.closing.specs.Carries.{printed as line_of, ends as ends_batch};
 
-use crate::marks::Marks;
-use batch::form::Form;
 use batch::sheet::SheetLine;
 use calls::call::Answer;
+use credit::refusal::Refusal;
+use std::ops::ControlFlow;
 
 // What an answer is on the sheet.
-pub(crate) fn printed(line: usize, answer: Answer) -> SheetLine
+fn printed(line: usize, answer: Answer) -> SheetLine
     ensures { result ≡ line_of line answer }
 {
     match answer {
-        Answer::Done => SheetLine::Done { line },
-        Answer::Reserved { .. } => SheetLine::Done { line },
-        Answer::Released(_) => SheetLine::Done { line },
+        Answer::Done | Answer::Reserved(_) | Answer::Released(_) => SheetLine::Done { line },
         Answer::Kept => SheetLine::Kept { line },
         Answer::Undone => SheetLine::Undone { line },
         Answer::Refused(refusal) => SheetLine::Refused { line, refusal },
@@ -24,37 +21,23 @@ pub(crate) fn printed(line: usize, answer: Answer) -> SheetLine
 }
 
 // Whether an answer ends the batch.
-pub(crate) fn ends(answer: Answer) -> bool
+fn ends(answer: Answer) -> bool
     ensures { result ≡ ends_batch answer }
 {
-    match answer {
-        Answer::Refused(refusal) => refusal.number() == 13 || refusal.number() == 14,
-        _ => false,
-    }
+    matches!(
+        answer,
+        Answer::Refused(Refusal::TooManySavepoints | Refusal::NoSavepoint)
+    )
 }
 
-fn accepted(answer: Answer) -> bool
-    ensures { result ≡ is_accepted answer }
+// What the answer to a line of the batch gives: its line on the sheet, and whether the batch goes on.
+pub(crate) fn told(line: usize, answer: Answer) -> ControlFlow<SheetLine, SheetLine>
+    ensures { result ≡ (if ends_batch answer then Break (line_of line answer) else Continue (line_of line answer)) }
 {
-    match answer {
-        Answer::Refused(_) => false,
-        _ => true,
-    }
-}
-
-// Keeps a mark for each open group once a form is carried out.
-pub(crate) fn mark(marks: &mut Marks, form: Form, answer: Answer, line: usize)
-    requires { form ≡ All → is_accepted answer ≡ true → length (marks_of marks.old) < 8 }
-    ensures { marks_of marks.new ≡ marks_after form answer line (marks_of marks.old) }
-{
-    if !accepted(answer) {
-        return;
-    }
-    match form {
-        Form::All => marks.push(line),
-        Form::Close => {
-            let _ = marks.pop();
-        }
-        _ => {}
+    let line = printed(line, answer);
+    if ends(answer) {
+        ControlFlow::Break(line)
+    } else {
+        ControlFlow::Continue(line)
     }
 }

@@ -8,9 +8,9 @@ ghost use Rattle.closing.specs.Chosen.{ServedBy};
 use crate::picking::Picks;
 use batch::form::Choice;
 use credit::line::Line;
+use credit::payment::Payment;
 use credit::refusal::Refusal;
-use filling::breadth::Breadth;
-use filling::scaling::Scaling;
+use filling::router::{Breadth, Scaling};
 use routing::direct::Direct;
 use routing::kept::Kept;
 use routing::router::Router;
@@ -48,22 +48,16 @@ impl Picks for Routers {
 }
 
 impl Router for Routers {
-    fn route(
-        &mut self,
-        lines: &[Line],
-        payer: u32,
-        payee: u32,
-        amount: i32,
-        plan: &mut [i32],
-    ) -> Result<(), Refusal>
-        ensures routes { Routes lines.now payer payee amount plan.old result plan.new }
+    fn route(&mut self, lines: &[Line], payment: Payment, plan: &mut [i32]) -> Result<(), Refusal>
+        ensures routes { Routes lines.now payment plan.old result plan.new }
         ensures choice { self.new.choice ≡ self.old.choice }
-        ensures served { ServedBy self.old.choice lines.now payer payee amount plan.old (remembered self.old.kept.memory) result plan.new (remembered self.new.kept.memory) }
+        ensures served { ServedBy self.old.choice lines.now payment plan.old (remembered self.old.kept.memory) result plan.new (remembered self.new.kept.memory) }
     {
+        // a match: the three are of three types and live on between payments, since kept remembers groups
         match self.choice {
-            Choice::Breadth => self.direct.route(lines, payer, payee, amount, plan),
-            Choice::Scaling => self.scaling.route(lines, payer, payee, amount, plan),
-            Choice::Kept => self.kept.route(lines, payer, payee, amount, plan),
+            Choice::Breadth => self.direct.route(lines, payment, plan),
+            Choice::Scaling => self.scaling.route(lines, payment, plan),
+            Choice::Kept => self.kept.route(lines, payment, plan),
         }
     }
 }

@@ -18,12 +18,7 @@ fn touches(line: &Line, member: u32) -> bool
 fn has_line(lines: &[Line], member: u32) -> bool
     ensures { result ≡ has_line member lines.now }
 {
-    for line in lines {
-        if touches(line, member) {
-            return true;
-        }
-    }
-    false
+    lines.iter().any(|line| touches(line, member))
 }
 
 // Adds a member's net position, if it has a line.
@@ -40,6 +35,7 @@ fn add_net(sheet: &mut Vec<SheetLine>, lines: &[Line], member: u32, net: i32)
 }
 
 // Adds the net positions of all members that have a line, rising.
+#[tactic(auto, using(std::proofs::lemmas::List::flat_map_more), unfolding(crate::specs::Statements::net_lines))]
 fn add_nets(sheet: &mut Vec<SheetLine>, lines: &[Line], nets: &[i32; 64])
     requires places { vec_len sheet.old + 64 ≤ vec_capacity sheet.old }
     requires values { nets.now ≡ net_table lines.now }
@@ -47,8 +43,8 @@ fn add_nets(sheet: &mut Vec<SheetLine>, lines: &[Line], nets: &[i32; 64])
     ensures len { vec_len sheet.new ≤ vec_len sheet.old + 64 }
     ensures capacity { vec_capacity sheet.new ≡ vec_capacity sheet.old }
 {
-    for member in 0..64u32 {
-        add_net(sheet, lines, member, nets[member as usize]);
+    for (member, net) in (0..64).zip(nets) {
+        add_net(sheet, lines, member, *net);
     }
 }
 
@@ -76,6 +72,7 @@ fn add_debts(sheet: &mut Vec<SheetLine>, lines: &[Line])
 }
 
 // Adds the statement: net positions, debts, and the end.
+#[tactic(auto, using(std::proofs::Common::append_assoc), unfolding(crate::specs::Statements::statement))]
 pub(crate) fn add_statement(sheet: &mut Vec<SheetLine>, lines: &[Line], nets: &[i32; 64])
     requires places { vec_len sheet.old + 65 + length lines.now ≤ vec_capacity sheet.old }
     requires values { nets.now ≡ net_table lines.now }

@@ -8,8 +8,8 @@ use Rattle.calls.specs.declared.call.Call.TheVariants.{Open, Pay, Reserve, Relea
 -- a try is a reservation and its release; a choice of router asks nothing
 abbrev pub calls_of : Form → List Call
 calls_of (Line x y t u) = Open x y t u ∷ []
-calls_of (PayForm p q n) = Pay 256 p q n ∷ []
-calls_of (Try p q n) = Reserve 256 p q n ∷ Release p q n ∷ []
+calls_of (PayForm pay) = Pay 256 pay ∷ []
+calls_of (Try pay) = Reserve 256 pay ∷ Release pay ∷ []
 calls_of TidyForm = Tidy ∷ []
 calls_of (Route c) = []
 calls_of All = Begin ∷ []

@@ -1,18 +1,18 @@
 // Closes one batch under two routers, and shows what they share and where they differ.
 #![tactic(auto)]
 
-use crate::script::{Script, read};
+use crate::script::{Script, Stop, read};
 use crate::tables::{print_calls, print_lines, print_nets};
 use closing::batches::LONGEST_BATCH;
 use credit::refusal::Refusal;
-use filling::breadth::Breadth;
-use filling::scaling::Scaling;
+use filling::router::{Breadth, Scaling};
 use replay::replay::close_twice;
 use routing::direct::Direct;
 use routing::kept::Kept;
-use std::env;
+use std::alloc::Global;
 use std::fs::File;
 use std::io::Read;
+use std::{env, io};
 
 mod script;
 mod tables;
@@ -35,30 +35,26 @@ fn compare_bytes(rt: &HostRuntime, bytes: &[u8]) -> anyhow::Result<()> {
     }
     let script = read(rt.alloc(), bytes)?;
     compare(rt, &script)?;
-    if let Some(stop) = script.stop {
-        let line = stop.line;
-        let refusal = stop.refusal;
+    if let Some(Stop { line, refusal }) = script.stop {
         println!(rt; "Line {line} and what follows were left out: {refusal}.")?;
     }
     Ok(())
 }
 
-// The first argument names a file; without one, standard input is read. One byte more than a batch may have is read,
-// so that a longer one shows.
+// What an input holds. One byte more than a batch may have is read, so that a longer one shows.
+fn read_bytes<I: Read + Drop>(input: I, heap: Global) -> io::Result<Vec<u8>> {
+    let mut bytes = Vec::new(heap);
+    let mut front = input.take(LONGEST_BATCH as u64 + 1);
+    front.read_to_end(&mut bytes)?;
+    Ok(bytes)
+}
+
+// The first argument names a file; without one, standard input is read.
 fn run(rt: &HostRuntime) -> anyhow::Result<()> {
-    let mut bytes = Vec::new(rt.alloc());
-    let most = LONGEST_BATCH as u64 + 1;
-    let mut paths = env::args(rt)?.skip(1);
-    match paths.next() {
-        Some(path) => {
-            let mut input = File::open(rt, path.as_str())?.take(most);
-            input.read_to_end(&mut bytes)?;
-        }
-        None => {
-            let mut input = rt.stdin().take(most);
-            input.read_to_end(&mut bytes)?;
-        }
-    }
+    let bytes = match env::args(rt)?.nth(1) {
+        Some(path) => read_bytes(File::open(rt, path.as_str())?, rt.alloc())?,
+        None => read_bytes(rt.stdin(), rt.alloc())?,
+    };
     compare_bytes(rt, &bytes)
 }
 

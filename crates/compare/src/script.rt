@@ -1,11 +1,11 @@
 // A batch as the list of calls that it asks of a ledger.
-ghost use Rattle.std.specs.Prelude.{◌≡◌, [], ◌∷◌, ◌++◌, IfOk, OnOk};
+ghost use Rattle.std.specs.Prelude.{◌≡◌, ◌++◌, IfOk, OnOk};
 ghost use Rattle.batch.specs.Reads.{steps_of};
 ghost use Rattle.compare.specs.Asked.{calls_of};
 ghost use Rattle.compare.specs.Scripts.{ScriptOf};
 
 use batch::form::Form;
-use batch::reader::Reader;
+use batch::reader::{Reader, Step};
 use calls::call::Call;
 use credit::refusal::Refusal;
 use std::alloc::{AllocError, Global};
@@ -24,19 +24,11 @@ pub struct Script {
     pub stop: Option<Stop>,
 }
 
-// Adds two calls, one after the other.
-fn add_two(calls: &mut Vec<Call>, first: Call, second: Call) -> Result<(), AllocError>
-    ensures { OnOk result (calls.new.items ≡ calls.old.items ++ first ∷ second ∷ []) }
-{
-    calls.push(first)?;
-    calls.push(second)?;
-    Ok(())
-}
-
 // Adds the calls that a form asks: one, two for a try, none for a choice of router.
 fn add_calls(calls: &mut Vec<Call>, form: Form) -> Result<(), AllocError>
     ensures { OnOk result (calls.new.items ≡ calls.old.items ++ calls_of form) }
 {
+    let places = 256;
     match form {
         Form::Line {
             first,
@@ -49,34 +41,10 @@ fn add_calls(calls: &mut Vec<Call>, form: Form) -> Result<(), AllocError>
             trust,
             back,
         })?,
-        Form::Pay {
-            payer,
-            payee,
-            amount,
-        } => calls.push(Call::Pay {
-            places: 256,
-            payer,
-            payee,
-            amount,
-        })?,
-        Form::Try {
-            payer,
-            payee,
-            amount,
-        } => add_two(
-            calls,
-            Call::Reserve {
-                places: 256,
-                payer,
-                payee,
-                amount,
-            },
-            Call::Release {
-                payer,
-                payee,
-                amount,
-            },
-        )?,
+        Form::Pay(payment) => calls.push(Call::Pay { places, payment })?,
+        Form::Try(payment) => {
+            calls.extend_from_slice(&[Call::Reserve { places, payment }, Call::Release(payment)])?
+        }
         Form::Tidy => calls.push(Call::Tidy)?,
         Form::Route(_) => {}
         Form::All => calls.push(Call::Begin)?,
@@ -90,18 +58,12 @@ pub fn read(heap: Global, batch: &[u8]) -> Result<Script, AllocError>
     ensures { IfOk result (λ script. ScriptOf (steps_of batch.now) script) }
 {
     let mut calls = Vec::new(heap);
-    let mut reader = Reader::new(batch);
-    while let Some(step) = reader.step() {
-        match step.form {
+    for Step { line, form } in Reader::new(batch) {
+        match form {
             Ok(form) => add_calls(&mut calls, form)?,
             Err(refusal) => {
-                return Ok(Script {
-                    calls,
-                    stop: Some(Stop {
-                        line: step.line,
-                        refusal,
-                    }),
-                });
+                let stop = Some(Stop { line, refusal });
+                return Ok(Script { calls, stop });
             }
         }
     }

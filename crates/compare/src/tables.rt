@@ -1,8 +1,28 @@
 // The tables that show two runs side by side.
+ghost use Rattle.std.specs.Prelude.{◌≡◌};
+
 use calls::call::Answer;
 use credit::line::Line;
 use replay::entry::Entry;
 use replay::replay::TwoRuns;
+
+// How many pairs differ.
+fn differing<T, F: Fn(&T, &T) -> bool>(one: &[T], other: &[T], agree: F) -> usize
+    requires { F.IsAlwaysCallable agree }
+{
+    one.iter()
+        .zip(other)
+        .filter(|(left, right)| !agree(left, right))
+        .count()
+}
+
+// Whether two answers agree: a refusal counts by its number.
+fn agree(one: Answer, other: Answer) -> bool {
+    match (one, other) {
+        (Answer::Refused(refusal), Answer::Refused(rival)) => refusal.number() == rival.number(),
+        _ => one == other,
+    }
+}
 
 // Why a call was refused, under its row.
 fn print_reason(rt: &HostRuntime, router: &str, answer: Answer) -> anyhow::Result<()> {
@@ -12,113 +32,91 @@ fn print_reason(rt: &HostRuntime, router: &str, answer: Answer) -> anyhow::Resul
     Ok(())
 }
 
-// One call with its two answers, and whether they agree: a refusal counts by its number.
-fn print_call(rt: &HostRuntime, one: &Entry, other: &Entry) -> anyhow::Result<bool> {
+// One call with its two answers.
+fn print_call(rt: &HostRuntime, one: &Entry, other: &Entry) -> anyhow::Result<()> {
     let asked = format!(in rt.alloc(); "{}", one.call)?;
     let left = format!(in rt.alloc(); "{}", one.answer)?;
     let right = format!(in rt.alloc(); "{}", other.answer)?;
     println!(rt; "{asked:<24}{left:<18}{right}")?;
     print_reason(rt, "direct breadth", one.answer)?;
-    print_reason(rt, "kept scaling", other.answer)?;
-    Ok(left == right)
+    print_reason(rt, "kept scaling", other.answer)
 }
 
 // Every call with its two answers, then how many calls have other answers, or other net positions after them.
 pub fn print_calls(rt: &HostRuntime, runs: &TwoRuns) -> anyhow::Result<()> {
-    let mut answers: usize = 0;
-    let mut nets: usize = 0;
+    let one = runs.one.entries.as_slice();
+    let other = runs.other.entries.as_slice();
     println!(rt; "{:<24}{:<18}{}", "call", "direct breadth", "kept scaling")?;
-    for (one, other) in runs.one.entries.iter().zip(runs.other.entries.iter()) {
-        if !print_call(rt, one, other)? {
-            answers = answers.saturating_add(1);
-        }
-        if one.nets != other.nets {
-            nets = nets.saturating_add(1);
-        }
+    for (left, right) in one.iter().zip(other) {
+        print_call(rt, left, right)?;
     }
-    let count = runs.one.entries.len();
+    let count = one.len();
+    let answers = differing(one, other, |left, right| agree(left.answer, right.answer));
+    let nets = differing(one, other, |left, right| left.nets == right.nets);
     println!(rt;
         "Of {count} calls {answers} have other answers, and {nets} leave other net positions.\n"
     )?;
     Ok(())
 }
 
-// One line with its two debts.
-fn print_line(rt: &HostRuntime, one: &Line, other: &Line) -> anyhow::Result<()> {
-    let a = one.a;
-    let b = one.b;
-    let left = one.debt;
-    let right = other.debt;
+// A line or a member with its number in each run, a debt or a net position.
+fn print_row(rt: &HostRuntime, label: &str, left: i32, right: i32) -> anyhow::Result<()> {
     let mark = if left == right { "" } else { "   differs" };
-    println!(rt; "{a:>4}{b:>4}{left:>18}{right:>16}{mark}")?;
+    println!(rt; "{label:<8}{left:>18}{right:>16}{mark}")?;
     Ok(())
 }
 
 // Every line with its two debts, then how many debts differ.
 pub fn print_lines(rt: &HostRuntime, runs: &TwoRuns) -> anyhow::Result<()> {
-    let mut differing: usize = 0;
+    let one = runs.one.lines.as_slice();
+    let other = runs.other.lines.as_slice();
     println!(rt;
         "{:<8}{:>18}{:>16}",
         "line", "direct breadth", "kept scaling"
     )?;
-    for (one, other) in runs.one.lines.iter().zip(runs.other.lines.iter()) {
-        print_line(rt, one, other)?;
-        if one.debt != other.debt {
-            differing = differing.saturating_add(1);
-        }
+    for (left, right) in one.iter().zip(other) {
+        let label = format!(in rt.alloc(); "{:>4}{:>4}", left.a, left.b)?;
+        print_row(rt, &label, left.debt, right.debt)?;
     }
-    let count = runs.one.lines.len();
-    println!(rt; "Of {count} debts {differing} differ.\n")?;
+    let count = one.len();
+    let debts = differing(one, other, |left, right| left.debt == right.debt);
+    println!(rt; "Of {count} debts {debts} differ.\n")?;
     Ok(())
 }
 
 // Whether a member has a line.
 fn has_line(lines: &[Line], member: u32) -> bool {
-    for line in lines {
-        if line.a == member || line.b == member {
-            return true;
-        }
-    }
-    false
+    lines
+        .iter()
+        .any(|line| line.a == member || line.b == member)
 }
 
 // The net positions after the last call; 0 where there was none.
 fn last_nets(entries: &[Entry]) -> [i32; 64] {
-    match entries.last() {
-        Some(entry) => entry.nets,
-        None => [0; 64],
-    }
-}
-
-// One member's two net positions.
-fn print_net(rt: &HostRuntime, member: u32, left: i32, right: i32) -> anyhow::Result<()> {
-    let mark = if left == right { "" } else { "   differs" };
-    println!(rt; "{member:>4}{left:>22}{right:>16}{mark}")?;
-    Ok(())
+    entries.last().map_or([0; 64], |entry| entry.nets)
 }
 
 // The two net positions of every member that has a line, then how many differ.
 pub fn print_nets(rt: &HostRuntime, runs: &TwoRuns) -> anyhow::Result<()> {
     let one = last_nets(&runs.one.entries);
     let other = last_nets(&runs.other.entries);
-    let mut count: usize = 0;
-    let mut differing: usize = 0;
+    let lines = runs.one.lines.as_slice();
     println!(rt;
         "{:<8}{:>18}{:>16}",
         "member", "direct breadth", "kept scaling"
     )?;
-    for member in 0..64u32 {
-        let left = one[member as usize];
-        let right = other[member as usize];
-        if has_line(&runs.one.lines, member) {
-            count = count.saturating_add(1);
-            print_net(rt, member, left, right)?;
-        }
-        if left != right {
-            differing = differing.saturating_add(1);
+    for ((member, left), right) in (0..64).zip(&one).zip(&other) {
+        if has_line(lines, member) {
+            let label = format!(in rt.alloc(); "{member:>4}")?;
+            print_row(rt, &label, *left, *right)?;
         }
     }
-    print_verdict(rt, count, differing)
+    let count = (0..64).filter(|member| has_line(lines, *member)).count();
+    print_verdict(
+        rt,
+        count,
+        differing(&one, &other, |left, right| left == right),
+    )
 }
 
 // Whether the net positions agree.

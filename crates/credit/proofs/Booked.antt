@@ -6,7 +6,7 @@ use Rattle.credit.specs.declared.line.Line.{Line}
 use Rattle.credit.specs.Sums.{every}
 use Rattle.credit.specs.Net.{bounded, no_line}
 use Rattle.credit.specs.Plans.{booked, moved, with_debt, roomy, fits}
-use Rattle.credit.proofs.Sums.{every_map}
+use Rattle.credit.proofs.Sums.{every_map, every_at}
 use Rattle.credit.proofs.Bounds.{bounded_roomy, bounded_moved}
 
 pub length_booked : (ls : List Line) (xs : List ℤ) → length (booked ls xs) ≡ length ls
@@ -20,27 +20,9 @@ booked_at (l ∷ ls) [] i h k = absurd (omega arith)
 booked_at (l ∷ ls) (x ∷ xs) zero h k = refl
 booked_at (l ∷ ls) (x ∷ xs) (suc i) h k = booked_at ls xs i (omega arith) (omega arith)
 
--- a line without a place in the plan stays
-pub booked_past : (ls : List Line) (xs : List ℤ) (i : ℕ) → length xs ≤ i → get_or (booked ls xs) i no_line ≡ get_or ls i no_line
-booked_past [] xs i h = refl
-booked_past (l ∷ ls) [] i h = refl
-booked_past (l ∷ ls) (x ∷ xs) zero h = absurd (omega arith)
-booked_past (l ∷ ls) (x ∷ xs) (suc i) h = booked_past ls xs i (omega arith)
-
 pub booked_none : (ls : List Line) → booked ls [] ≡ ls
 booked_none [] = refl
 booked_none (l ∷ ls) = refl
-
--- one place more of the plan
-booked_suc : (ls : List Line) (xs : List ℤ) (i : ℕ) → i < length ls → i < length xs → booked ls (take (suc i) xs) ≡ set (booked ls (take i xs)) i (moved (get_or ls i no_line) (get_or xs i (pos 0)))
-booked_suc [] xs i h k = absurd (omega arith)
-booked_suc (l ∷ ls) [] i h k = absurd (omega arith)
-booked_suc (l ∷ []) (x ∷ xs) zero h k = refl
-booked_suc (l ∷ (m ∷ ls)) (x ∷ xs) zero h k = refl
-booked_suc (l ∷ ls) (x ∷ xs) (suc i) h k = ap (λ t. moved l x ∷ t) (booked_suc ls xs i (omega arith) (omega arith))
-
-pub booked_more : (ls : List Line) (xs : List ℤ) (i : ℕ) → i < length ls → i < length xs → booked ls (take (i + 1) xs) ≡ set (booked ls (take i xs)) i (moved (get_or ls i no_line) (get_or xs i (pos 0)))
-booked_more ls xs i h k = rw add-one (booked_suc ls xs i h k)
 
 -- places behind the last line do not count
 pub booked_enough : (ls : List Line) (xs : List ℤ) (n : ℕ) → length ls ≤ n → booked ls (take n xs) ≡ booked ls xs
@@ -73,7 +55,7 @@ bounded_booked (l ∷ ls) (x ∷ xs) e f =
     and_from (bounded (moved l x)) (every bounded (booked ls xs)) (bounded_moved l x p.0 q.0) (bounded_booked ls xs p.1 q.1)
 
 -- a plan of nothing changes nothing
-still : (l : Line) → moved l (pos 0) ≡ l
+pub still : (l : Line) → moved l (pos 0) ≡ l
 still l = ap (with_debt l) (nought l.debt)
   where
     nought : (d : ℤ) → d -ℤ pos 0 ≡ d
@@ -101,6 +83,16 @@ next_suc (l ∷ ls) (x ∷ xs) (suc i) h = ap (λ t. moved l x ∷ t) (next_suc 
 -- one place more of a plan that may be shorter than the lines
 pub booked_next : (ls : List Line) (xs : List ℤ) (i : ℕ) → i < length ls → booked ls (take (i + 1) xs) ≡ set (booked ls (take i xs)) i (moved (get_or ls i no_line) (get_or xs i (pos 0)))
 booked_next ls xs i h = rw add-one (next_suc ls xs i h)
+
+pub next_line : (ls : List Line) (xs : List ℤ) (i : ℕ) → get_or (booked ls (take i xs)) i no_line ≡ get_or ls i no_line
+next_line ls xs i = booked_ahead ls xs i i (omega arith)
+
+-- a line is within its bounds once its number is moved
+pub bounded_next : (ls : List Line) (xs : List ℤ) (i : ℕ) → every bounded ls ≡ true → fits ls xs ≡ true → i < length ls → bounded (moved (get_or ls i no_line) (get_or xs i (pos 0))) ≡ true
+bounded_next ls xs i e f h = ap bounded (sym (booked_any ls xs i h)) ∙ every_at bounded (booked ls xs) i no_line (bounded_booked ls xs e f) (omega (arith, length_booked ls xs))
+
+-- the steps of a loop that books a plan line by line
+pub ruleset book_steps = (ints, booked_none, booked_next, booked_enough, bounded_next, next_line)
 
 pub booked_zeros : (ls : List Line) (k : ℕ) → booked ls (replicate k (pos 0)) ≡ ls
 booked_zeros [] k = refl

@@ -1,15 +1,14 @@
 -- What the bounds of a line say, as orders.
-use Rattle.std.proofs.Common.{◌≡◌, ℕ, ◌<◌, Bool, true, false, ◌&&◌, eqb, ltb, ◌⊎◌, List, length, get_or, ℤ, pos, ◌-ℤ◌, neg_ℤ, ◌≤ℤ◌, sym, ◌∙◌, inl, inr, arith}
+use Rattle.std.proofs.Common.{◌≡◌, ℕ, ◌<◌, Bool, true, false, ◌&&◌, eqb, ltb, ◌⊎◌, ℤ, pos, ◌-ℤ◌, neg_ℤ, ◌≤ℤ◌, sym, ◌∙◌, inl, inr, arith}
 use lib.Signed.{le_z}
 use Rattle.std.proofs.lemmas.Int.{ints}
 use Rattle.std.proofs.lemmas.Bool.{and_parts, and_from, ltb-true, cases_Bool, both_ways}
 use Rattle.members.specs.Groups.{inside}
 use Rattle.credit.specs.declared.line.Line.{Line}
-use Rattle.credit.specs.Sums.{only, every}
-use Rattle.credit.specs.Net.{bounded, framed, affordable, in_trust, share, no_line}
+use Rattle.credit.specs.Sums.{only}
+use Rattle.credit.specs.Net.{bounded, framed, affordable, in_trust, share}
 use Rattle.credit.specs.Rooms.{room_onward, room_back, line_room, room_out}
 use Rattle.credit.specs.Plans.{roomy, moved}
-use Rattle.credit.proofs.Sums.{every_at}
 
 pub le_z_order : (a b : ℤ) → le_z a b ≡ true → a ≤ℤ b
 le_z_order a b h = omega (arith, ints)
@@ -91,9 +90,6 @@ share_range m l e = by (eqb m l.a) (eqb m l.b)
     by false true = let b = bounded_facts l e in (omega (arith, ints), omega (arith, ints))
     by false false = let b = bounded_facts l e in (omega (arith, ints), omega (arith, ints))
 
-pub share_within : (m : ℕ) (ls : List Line) (i : ℕ) → every bounded ls ≡ true → i < length ls → (neg_ℤ (pos 1000000) ≤ℤ share m (get_or ls i no_line)) × (share m (get_or ls i no_line) ≤ℤ pos 1000000)
-share_within m ls i e h = share_range m (get_or ls i no_line) (every_at bounded ls i no_line e h)
-
 -- a line brings 0 to 2,000,000 to the room of a group
 pub room_range : (g : ℕ) (l : Line) → bounded l ≡ true → (pos 0 ≤ℤ room_out g l) × (room_out g l ≤ℤ pos 2000000)
 room_range g l e = by (inside g l.a) (inside g l.b)
@@ -103,6 +99,3 @@ room_range g l e = by (inside g l.a) (inside g l.b)
     by true false = let b = bounded_facts l e in (omega (arith, ints), omega (arith, ints))
     by false true = let b = bounded_facts l e in (omega (arith, ints), omega (arith, ints))
     by false false = (omega (arith, ints), omega (arith, ints))
-
-pub room_within : (g : ℕ) (ls : List Line) (i : ℕ) → every bounded ls ≡ true → i < length ls → (pos 0 ≤ℤ room_out g (get_or ls i no_line)) × (room_out g (get_or ls i no_line) ≤ℤ pos 2000000)
-room_within g ls i e h = room_range g (get_or ls i no_line) (every_at bounded ls i no_line e h)

@@ -4,3 +4,4 @@ pub mod Rooms
 pub mod Booked
 pub mod Sends
 pub mod Tables
+pub mod Chains

@@ -1,16 +1,8 @@
 -- Sums over lists and over members, and tests of every element.
-use Rattle.std.proofs.Common.{◌≡◌, ℕ, zero, suc, ◌+◌, ◌<◌, ◌≤◌, Bool, true, false, eqb, ◌⊎◌, List, [], ◌∷◌, ◌++◌, length, get_or, take, set, ℤ, pos, ◌+ℤ◌, ◌-ℤ◌, refl, ap, inl, inr, add-one, arith}
+use Rattle.std.proofs.Common.{◌≡◌, ℕ, zero, suc, ◌<◌, ◌≤◌, Bool, true, false, eqb, ◌⊎◌, List, [], ◌∷◌, ◌++◌, length, get_or, set, ℤ, pos, ◌+ℤ◌, ◌-ℤ◌, refl, ap, inl, inr, arith}
 use Rattle.std.proofs.lemmas.Int.{ints}
 use Rattle.std.proofs.lemmas.Bool.{eq-eqb, ne_eqb, cases_eq, and_parts, and_from}
 use Rattle.credit.specs.Sums.{sum_z, members, only, every}
-
-pub sum_ext : {X : Type 0} (f g : X → ℤ) (xs : List X) → ((x : X) → f x ≡ g x) → sum_z f xs ≡ sum_z g xs
-sum_ext f g [] e = refl
-sum_ext f g (x ∷ xs) e = omega (arith, ints, e x, sum_ext f g xs e)
-
-pub sum_add : {X : Type 0} (f g : X → ℤ) (xs : List X) → sum_z (λ x. f x +ℤ g x) xs ≡ sum_z f xs +ℤ sum_z g xs
-sum_add f g [] = refl
-sum_add f g (x ∷ xs) = omega (arith, ints, sum_add f g xs)
 
 pub sum_append : {X : Type 0} (f : X → ℤ) (xs ys : List X) → sum_z f (xs ++ ys) ≡ sum_z f xs +ℤ sum_z f ys
 sum_append f [] ys = omega (arith, ints)
@@ -73,15 +65,6 @@ members_pick (suc n) a f h = by (cases_eq n a) (members_pick n a f)
     by (inl e) ih = rw (eq-eqb n a e) (omega (arith, ints, members_none n a f (omega arith), ap f e))
     by (inr d) ih = rw (ne_eqb n a d) (omega (arith, ints, ih (omega arith)))
 
--- one element more
-sum_suc : {X : Type 0} (f : X → ℤ) (xs : List X) (i : ℕ) (d : X) → i < length xs → sum_z f (take (suc i) xs) ≡ sum_z f (take i xs) +ℤ f (get_or xs i d)
-sum_suc f [] i d h = absurd (omega arith)
-sum_suc f (x ∷ xs) zero d h = omega (arith, ints)
-sum_suc f (x ∷ xs) (suc i) d h = omega (arith, ints, sum_suc f xs i d (omega arith))
-
-pub sum_more : {X : Type 0} (f : X → ℤ) (xs : List X) (i : ℕ) (d : X) → i < length xs → sum_z f (take (i + 1) xs) ≡ sum_z f (take i xs) +ℤ f (get_or xs i d)
-sum_more f xs i d h = rw add-one (sum_suc f xs i d h)
-
 -- one element replaced
 pub sum_set : {X : Type 0} (f : X → ℤ) (xs : List X) (i : ℕ) (y d : X) → i < length xs → sum_z f (set xs i y) ≡ sum_z f xs +ℤ (f y -ℤ f (get_or xs i d))
 sum_set f [] i y d h = absurd (omega arith)
@@ -98,14 +81,6 @@ pub every_set : {X : Type 0} (p : X → Bool) (xs : List X) (i : ℕ) (y : X) �
 every_set p [] i y e h = refl
 every_set p (x ∷ xs) zero y e h = and_from (p y) (every p xs) h (and_parts (p x) (every p xs) e).1
 every_set p (x ∷ xs) (suc i) y e h = and_from (p x) (every p (set xs i y)) (and_parts (p x) (every p xs) e).0 (every_set p xs i y (and_parts (p x) (every p xs) e).1 h)
-
-every_suc : {X : Type 0} (p : X → Bool) (xs : List X) (i : ℕ) (d : X) → i < length xs → every p (take i xs) ≡ true → p (get_or xs i d) ≡ true → every p (take (suc i) xs) ≡ true
-every_suc p [] i d h e k = absurd (omega arith)
-every_suc p (x ∷ xs) zero d h e k = and_from (p x) true k refl
-every_suc p (x ∷ xs) (suc i) d h e k = and_from (p x) (every p (take (suc i) xs)) (and_parts (p x) (every p (take i xs)) e).0 (every_suc p xs i d (omega arith) (and_parts (p x) (every p (take i xs)) e).1 k)
-
-pub every_more : {X : Type 0} (p : X → Bool) (xs : List X) (i : ℕ) (d : X) → i < length xs → every p (take i xs) ≡ true → p (get_or xs i d) ≡ true → every p (take (i + 1) xs) ≡ true
-every_more p xs i d h e k = rw add-one (every_suc p xs i d h e k)
 
 -- a weaker test passes too
 pub every_map : {X : Type 0} (p q : X → Bool) (xs : List X) → ((x : X) → p x ≡ true → q x ≡ true) → every p xs ≡ true → every q xs ≡ true

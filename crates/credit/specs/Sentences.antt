@@ -1,6 +1,7 @@
--- Each refusal as a sentence that a person can read.
-use Rattle.std.specs.Prelude.{ℕ, List, ◌++◌, ℤ, Some, None, codes, Option}
+-- Each refusal as a sentence that a person can read, and the words of a payment.
+use Rattle.std.specs.Prelude.{ℕ, List, ◌++◌, ℤ, Some, None, codes, decimal, Option}
 use Rattle.std.specs.Fmt.{signed_decimal}
+use Rattle.credit.specs.declared.payment.Payment.{Payment}
 use Rattle.credit.specs.declared.refusal.Refusal.{Refusal}
 use Rattle.credit.specs.declared.refusal.Refusal.TheVariants.{LineTooLong, UnknownForm, WrongParts, NotANumber, NoSuchMember, SameMember, OutOfRange, ReservationStands, Spoiled, PairHasLine, TooManyLines, SavepointOpen, TooManySavepoints, NoSavepoint, NoSuchReservation, WantOfRoom, BadPlanSheet, LeftOpen, BufferTooShort, BatchTooLong}
 
@@ -57,3 +58,7 @@ with_room reason (Some room) = reason ++ (codes ": a group with the payer inside
 -- what is printed of a refusal
 abbrev pub sentence : Refusal → List ℕ
 sentence e = with_room (reason_of e) (room_of e)
+
+-- a payment's payer, payee and amount
+abbrev pub payment_words : Payment → List ℕ
+payment_words pay = decimal pay.payer ++ (codes " " ++ (decimal pay.payee ++ (codes " " ++ signed_decimal pay.amount)))

@@ -5,6 +5,7 @@ pub mod booking;
 pub mod laws;
 pub mod line;
 pub mod net;
+pub mod payment;
 pub mod plan;
 pub mod refusal;
 pub mod room;

@@ -1,4 +1,4 @@
-ghost use Rattle.std.specs.Prelude.{◌≡◌, pos, ◌-ℤ◌, neg_ℤ, ◌≤ℤ◌};
+ghost use Rattle.std.specs.Prelude.{◌≡◌, true, pos, ◌-ℤ◌, neg_ℤ, ◌≤ℤ◌};
 ghost use Rattle.credit.specs.Net.{in_trust, framed, affordable, bounded, share as share_of};
 ghost use Rattle.credit.specs.Sums.{only};
 ghost use Rattle.credit.specs.Rooms.{room_onward, room_back, room_out};
@@ -25,7 +25,7 @@ pub struct Line {
 pub fn in_trust(trust: i32) -> bool
     ensures { result ≡ in_trust trust }
 {
-    0 <= trust && trust <= 1_000_000
+    (0..=1_000_000).contains(&trust)
 }
 
 impl Line {
@@ -63,6 +63,14 @@ impl Line {
         ensures bound { (neg_ℤ (pos 2147483648) ≤ℤ result) × (result ≤ℤ pos 2147483648) }
     {
         if test { i64::from(self.debt) } else { 0 }
+    }
+
+    // Moves a planned number from a to b.
+    pub(crate) fn shift(&mut self, planned: i32)
+        requires { bounded (moved self.old planned) ≡ true }
+        ensures { self.new ≡ moved self.old planned }
+    {
+        self.debt -= planned;
     }
 
     // The debt once a planned number is moved from a to b.

@@ -8,7 +8,7 @@ use crate::line::Line;
 pub(crate) fn planned(plan: &[i32], i: usize) -> i32
     ensures { result ≡ slice_index_or plan.now i (pos 0) }
 {
-    if i < plan.len() { plan[i] } else { 0 }
+    plan.get(i).copied().unwrap_or(0)
 }
 
 // The plan number of a line once x more is moved over it from one of its ends.

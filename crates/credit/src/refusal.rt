@@ -1,8 +1,9 @@
 ghost use Rattle.std.specs.Prelude.{◌≡◌, Some};
 ghost use Rattle.credit.specs.Refusals.{number_of};
-ghost use Rattle.credit.specs.Sentences.{reason_of, room_of, sentence};
+ghost use Rattle.credit.specs.Sentences.{sentence};
 
 use members::group::Group;
+use std::error::Error;
 use std::fmt;
 
 // Why a call is refused. Each case has its number in the table of refusals.
@@ -59,57 +60,42 @@ impl Refusal {
             Refusal::BatchTooLong => 20,
         }
     }
-
-    // Why, in plain words.
-    fn reason(&self) -> &'static str
-        ensures { result.now ≡ reason_of self.now }
-    {
-        match self {
-            Refusal::LineTooLong => "a line has more than 40 bytes",
-            Refusal::UnknownForm => "not one of the forms",
-            Refusal::WrongParts => "a closing bracket is missing or the count of parts is wrong",
-            Refusal::NotANumber => "a part is not a number",
-            Refusal::NoSuchMember => "a member is not 0 to 63",
-            Refusal::SameMember => "both members are the same",
-            Refusal::OutOfRange => "an amount or a trust is out of range",
-            Refusal::ReservationStands => "a reservation stands",
-            Refusal::Spoiled => "the inmost group of payments is spoiled",
-            Refusal::PairHasLine => "the pair has a line",
-            Refusal::TooManyLines => "there are 256 lines",
-            Refusal::SavepointOpen => "a group of payments is open",
-            Refusal::TooManySavepoints => "eight groups of payments are open",
-            Refusal::NoSavepoint => "no group of payments is open",
-            Refusal::NoSuchReservation => "no reservation with these numbers stands",
-            Refusal::WantOfRoom { .. } => "want of room",
-            Refusal::BadPlanSheet => "the lines and the plan sheet do not fit together",
-            Refusal::LeftOpen => "a group of payments was left open",
-            Refusal::BufferTooShort => "the buffer is too short for the line",
-            Refusal::BatchTooLong => "a batch has more than 32,768 bytes",
-        }
-    }
-
-    // The room of the group that was named, where room was wanting.
-    fn room(&self) -> Option<i32>
-        ensures { result ≡ room_of self.now }
-    {
-        match self {
-            Refusal::WantOfRoom { room, .. } => Some(*room),
-            _ => None,
-        }
-    }
 }
 
+// Why, in plain words; and the room of the group that was named, where room was wanting.
 impl fmt::Display for Refusal {
     ghost output = { λ e. Some (sentence e) };
 
     fn fmt<W: fmt::Write>(&self, f: &mut fmt::Formatter<W>) -> fmt::Result {
-        let reason = self.reason();
-        match self.room() {
-            None => write!(f, "{reason}"),
-            Some(room) => write!(
+        match self {
+            Refusal::LineTooLong => write!(f, "a line has more than 40 bytes"),
+            Refusal::UnknownForm => write!(f, "not one of the forms"),
+            Refusal::WrongParts => write!(
                 f,
-                "{reason}: a group with the payer inside and the payee outside has room {room}"
+                "a closing bracket is missing or the count of parts is wrong"
             ),
+            Refusal::NotANumber => write!(f, "a part is not a number"),
+            Refusal::NoSuchMember => write!(f, "a member is not 0 to 63"),
+            Refusal::SameMember => write!(f, "both members are the same"),
+            Refusal::OutOfRange => write!(f, "an amount or a trust is out of range"),
+            Refusal::ReservationStands => write!(f, "a reservation stands"),
+            Refusal::Spoiled => write!(f, "the inmost group of payments is spoiled"),
+            Refusal::PairHasLine => write!(f, "the pair has a line"),
+            Refusal::TooManyLines => write!(f, "there are 256 lines"),
+            Refusal::SavepointOpen => write!(f, "a group of payments is open"),
+            Refusal::TooManySavepoints => write!(f, "eight groups of payments are open"),
+            Refusal::NoSavepoint => write!(f, "no group of payments is open"),
+            Refusal::NoSuchReservation => write!(f, "no reservation with these numbers stands"),
+            Refusal::WantOfRoom { room, .. } => write!(
+                f,
+                "want of room: a group with the payer inside and the payee outside has room {room}"
+            ),
+            Refusal::BadPlanSheet => write!(f, "the lines and the plan sheet do not fit together"),
+            Refusal::LeftOpen => write!(f, "a group of payments was left open"),
+            Refusal::BufferTooShort => write!(f, "the buffer is too short for the line"),
+            Refusal::BatchTooLong => write!(f, "a batch has more than 32,768 bytes"),
         }
     }
 }
+
+impl Error for Refusal {}

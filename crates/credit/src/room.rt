@@ -9,7 +9,7 @@ use crate::line::Line;
 use crate::plan::planned;
 use members::group::Group;
 
-// The sum of what the lines bring to the room of a group after a plan.
+// The sum of what the lines bring to the room of a group after a plan, with the bound that lets group_room narrow it.
 fn total_room(lines: &[Line], plan: &[i32], group: Group) -> i64
     requires few { length lines.now ≤ 256 }
     requires bounds { every bounded lines.now ≡ true }
@@ -17,11 +17,12 @@ fn total_room(lines: &[Line], plan: &[i32], group: Group) -> i64
     ensures value { result ≡ room group.bits (booked lines.now plan.now) }
     ensures bound { (pos 0 ≤ℤ result) × (result ≤ℤ pos 512000000) }
 {
-    let mut sum = 0i64;
-    for i in 0..lines.len() {
-        sum += lines[i].room_out(planned(plan, i), group);
-    }
-    sum
+    // with their places: a plan may be shorter than the lines, and a zip would leave the others out
+    lines
+        .iter()
+        .enumerate()
+        .map(|(i, line)| line.room_out(planned(plan, i), group))
+        .sum()
 }
 
 // The room of a group after a plan: what its members can send out over all lines to outsiders. A plan may be shorter

@@ -1,2 +1,3 @@
 mod Naming
 mod Seeking
+pub mod Denying

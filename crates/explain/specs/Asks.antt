@@ -1,5 +1,6 @@
 -- What a line of a batch asks, in words.
 use Rattle.std.specs.Prelude.{ℕ, cond, List, [], ◌++◌, Some, None, codes, decimal, Option, ◌==◌}
+use Rattle.credit.specs.declared.payment.Payment.{Payment}
 use Rattle.batch.specs.declared.form.Choice.{Choice}
 use Rattle.batch.specs.declared.form.Choice.TheVariants.{Breadth, Scaling, Kept}
 use Rattle.batch.specs.declared.form.Form.{Form}
@@ -11,10 +12,14 @@ router_of Breadth = codes "breadth"
 router_of Scaling = codes "scaling"
 router_of Kept = codes "kept"
 
+-- who is paid, and how much
+abbrev pub paid_of : Payment → List ℕ
+paid_of pay = codes "member " ++ (decimal pay.payee ++ (codes " " ++ minutes_of pay.amount))
+
 abbrev pub asks_of : Form → List ℕ
 asks_of (Line a b t u) = codes "member " ++ (decimal a ++ (codes " trusts member " ++ (decimal b ++ (codes " for " ++ (minutes_of t ++ (codes " and is trusted for " ++ minutes_of u))))))
-asks_of (Pay p q n) = codes "member " ++ (decimal p ++ (codes " pays member " ++ (decimal q ++ (codes " " ++ minutes_of n))))
-asks_of (Try p q n) = codes "member " ++ (decimal p ++ (codes " tries to pay member " ++ (decimal q ++ (codes " " ++ minutes_of n))))
+asks_of (Pay pay) = codes "member " ++ (decimal pay.payer ++ (codes " pays " ++ paid_of pay))
+asks_of (Try pay) = codes "member " ++ (decimal pay.payer ++ (codes " tries to pay " ++ paid_of pay))
 asks_of Tidy = codes "rings of debt are cancelled"
 asks_of (Route c) = codes "payments are routed by " ++ (router_of c ++ codes " from here on")
 asks_of All = codes "a group of payments begins"

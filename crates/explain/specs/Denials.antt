@@ -4,22 +4,20 @@ use Rattle.std.specs.Fmt.{signed_decimal}
 use Rattle.members.specs.declared.group.Group.{Group}
 use Rattle.members.specs.Groups.{members_of}
 use Rattle.credit.specs.declared.refusal.Refusal.{Refusal}
+use Rattle.credit.specs.declared.refusal.Refusal.TheVariants.{WantOfRoom, LeftOpen}
 use Rattle.credit.specs.Refusals.{number_of}
 use Rattle.credit.specs.Sentences.{sentence}
 use Rattle.batch.specs.declared.form.Form.{Form}
 use Rattle.batch.specs.declared.form.Form.TheVariants.{Line, Pay, Try, Tidy, Route, All, Close}
-use Rattle.explain.specs.declared.kind.Kind.{Kind}
-use Rattle.explain.specs.declared.kind.Kind.TheVariants.{Tight, Open, Plain}
 use Rattle.explain.specs.Asks.{lead_of}
-use Rattle.explain.specs.Kinds.{kind_of}
 use Rattle.explain.specs.Words.{minutes_of, names_of}
 
 -- the amount that a form asks to pay
 abbrev pub amount_of : Option Form → Option ℤ
 amount_of None = None
 amount_of (Some (Line a b t u)) = None
-amount_of (Some (Pay p q n)) = Some n
-amount_of (Some (Try p q n)) = Some n
+amount_of (Some (Pay pay)) = Some pay.amount
+amount_of (Some (Try pay)) = Some pay.amount
 amount_of (Some Tidy) = None
 amount_of (Some (Route c)) = None
 amount_of (Some All) = None
@@ -34,11 +32,8 @@ lack_of (Some n) room = codes ", " ++ (signed_decimal (n -ℤ room) ++ codes " t
 abbrev pub want_of : Group → ℤ → Option ℤ → List ℕ
 want_of g room amount = codes "want of room: " ++ (names_of (members_of g.bits) ++ (codes " can pay others only " ++ (minutes_of room ++ (codes " more" ++ lack_of amount room))))
 
--- the words of a refusal of this kind
-abbrev pub denied_as : Kind → ℕ → Option Form → Refusal → List ℕ
-denied_as (Tight g room) line form e = lead_of line form ++ (codes "refused (" ++ (decimal (number_of e) ++ (codes "), " ++ (want_of g room (amount_of form) ++ codes "."))))
-denied_as Open line form e = codes "The group of payments that line " ++ (decimal line ++ codes " began was open at the end: it is undone.")
-denied_as Plain line form e = lead_of line form ++ (codes "refused (" ++ (decimal (number_of e) ++ (codes "), " ++ (sentence e ++ codes "."))))
-
+-- a refused line
 abbrev pub denial_of : ℕ → Option Form → Refusal → List ℕ
-denial_of line form e = denied_as (kind_of e) line form e
+denial_of line form (WantOfRoom g room) = lead_of line form ++ (codes "refused (" ++ (decimal (number_of (WantOfRoom g room)) ++ (codes "), " ++ (want_of g room (amount_of form) ++ codes "."))))
+denial_of line form LeftOpen = codes "The group of payments that line " ++ (decimal line ++ codes " began was open at the end: it is undone.")
+denial_of line form e = lead_of line form ++ (codes "refused (" ++ (decimal (number_of e) ++ (codes "), " ++ (sentence e ++ codes "."))))

@@ -1,6 +1,5 @@
 pub mod Words
 pub mod Asks
-pub mod Kinds
 pub mod Denials
-pub mod Sides
+pub mod Standings
 pub mod Tells

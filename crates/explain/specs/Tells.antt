@@ -1,5 +1,6 @@
 -- A line of a sheet as a sentence, and a sheet as sentences.
 use Rattle.std.specs.Prelude.{ℕ, cond, List, [], ◌∷◌, ◌++◌, Some, None, codes, decimal, Option, ◌==◌}
+use Rattle.std.specs.List.{flat_map}
 use Rattle.std.specs.Result.{result_ok}
 use Rattle.batch.specs.declared.form.Form.{Form}
 use Rattle.batch.specs.declared.form.Form.TheVariants.{Line, Pay, Try, Tidy, Route, All, Close}
@@ -8,14 +9,14 @@ use Rattle.batch.specs.declared.sheet.SheetLine.{SheetLine}
 use Rattle.batch.specs.declared.sheet.SheetLine.TheVariants.{Done, Kept, Undone, Refused, Net, Debt, End}
 use Rattle.explain.specs.Asks.{lead_of}
 use Rattle.explain.specs.Denials.{denial_of}
-use Rattle.explain.specs.Sides.{side_of, balance_of, owing_of}
+use Rattle.explain.specs.Standings.{balance_of, owing_of}
 
 -- what became of a form that was carried out
 abbrev pub outcome_of : Option Form → List ℕ
 outcome_of None = codes "done"
 outcome_of (Some (Line a b t u)) = codes "done"
-outcome_of (Some (Pay p q n)) = codes "done"
-outcome_of (Some (Try p q n)) = codes "it can"
+outcome_of (Some (Pay pay)) = codes "done"
+outcome_of (Some (Try pay)) = codes "it can"
 outcome_of (Some Tidy) = codes "done"
 outcome_of (Some (Route c)) = codes "done"
 outcome_of (Some All) = codes "done"
@@ -27,8 +28,8 @@ sentence_of form (Done l) = lead_of l form ++ (outcome_of form ++ codes ".")
 sentence_of form (Kept l) = codes "Line " ++ (decimal l ++ codes ": the group of payments is kept.")
 sentence_of form (Undone l) = codes "Line " ++ (decimal l ++ codes ": the group of payments is undone.")
 sentence_of form (Refused l e) = denial_of l form e
-sentence_of form (Net m n) = balance_of m (side_of n)
-sentence_of form (Debt a b d) = owing_of a b (side_of d)
+sentence_of form (Net m n) = balance_of m n
+sentence_of form (Debt a b d) = owing_of a b d
 sentence_of form End = codes "End of the sheet."
 
 -- the form of the batch line with a number, where there is such a line and it is a form
@@ -48,5 +49,4 @@ form_for ss End = None
 
 -- a sheet as sentences, each with a line feed
 abbrev pub explained : List Step → List SheetLine → List ℕ
-explained ss [] = []
-explained ss (x ∷ xs) = (sentence_of (form_for ss x) x ++ (10 ∷ [])) ++ explained ss xs
+explained ss = flat_map (λ x. sentence_of (form_for ss x) x ++ (10 ∷ []))

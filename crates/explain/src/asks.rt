@@ -1,9 +1,10 @@
 // What a line of a batch asks, in words.
 ghost use Rattle.std.specs.Prelude.{◌≡◌, Some};
-ghost use Rattle.explain.specs.Asks.{asks_of, lead_of, router_of};
+ghost use Rattle.explain.specs.Asks.{asks_of, lead_of, paid_of, router_of};
 
 use crate::minutes::Minutes;
 use batch::form::{Choice, Form};
+use credit::payment::Payment;
 use std::fmt;
 
 #[derive(Clone, Copy)]
@@ -20,6 +21,20 @@ fn router(choice: Choice) -> &'static str
     }
 }
 
+// Who is paid, and how much.
+#[derive(Clone, Copy)]
+struct Paid(Payment);
+
+impl fmt::Display for Paid {
+    ghost output = { λ p. Some (paid_of p.0) };
+
+    fn fmt<W: fmt::Write>(&self, f: &mut fmt::Formatter<W>) -> fmt::Result {
+        let payee = self.0.payee;
+        let amount = Minutes(i64::from(self.0.amount));
+        write!(f, "member {payee} {amount}")
+    }
+}
+
 impl fmt::Display for Asks {
     ghost output = { λ a. Some (asks_of a.0) };
 
@@ -31,28 +46,22 @@ impl fmt::Display for Asks {
                 trust,
                 back,
             } => {
-                let trust = Minutes(trust as i64);
-                let back = Minutes(back as i64);
+                let trust = Minutes(i64::from(trust));
+                let back = Minutes(i64::from(back));
                 write!(
                     f,
                     "member {first} trusts member {second} for {trust} and is trusted for {back}"
                 )
             }
-            Form::Pay {
-                payer,
-                payee,
-                amount,
-            } => {
-                let amount = Minutes(amount as i64);
-                write!(f, "member {payer} pays member {payee} {amount}")
+            Form::Pay(payment) => {
+                let payer = payment.payer;
+                let paid = Paid(payment);
+                write!(f, "member {payer} pays {paid}")
             }
-            Form::Try {
-                payer,
-                payee,
-                amount,
-            } => {
-                let amount = Minutes(amount as i64);
-                write!(f, "member {payer} tries to pay member {payee} {amount}")
+            Form::Try(payment) => {
+                let payer = payment.payer;
+                let paid = Paid(payment);
+                write!(f, "member {payer} tries to pay {paid}")
             }
             Form::Tidy => write!(f, "rings of debt are cancelled"),
             Form::Route(choice) => {
@@ -77,6 +86,7 @@ impl fmt::Display for Lead {
 
     fn fmt<W: fmt::Write>(&self, f: &mut fmt::Formatter<W>) -> fmt::Result {
         let line = self.line;
+        // the format's own number for the whole batch, which a sheet line carries
         if line == 0 {
             return write!(f, "The whole batch: ");
         }

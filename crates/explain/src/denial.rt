@@ -3,7 +3,6 @@ ghost use Rattle.std.specs.Prelude.{◌≡◌, Some};
 ghost use Rattle.explain.specs.Denials.{amount_of, lack_of, want_of, denial_of};
 
 use crate::asks::Lead;
-use crate::kind::Kind;
 use crate::minutes::Minutes;
 use crate::names::Names;
 use batch::form::Form;
@@ -16,8 +15,7 @@ fn amount(form: Option<Form>) -> Option<i32>
     ensures { result ≡ amount_of form }
 {
     match form {
-        Some(Form::Pay { amount, .. }) => Some(amount),
-        Some(Form::Try { amount, .. }) => Some(amount),
+        Some(Form::Pay(payment) | Form::Try(payment)) => Some(payment.amount),
         _ => None,
     }
 }
@@ -36,7 +34,7 @@ impl fmt::Display for Lack {
         match self.amount {
             None => Ok(()),
             Some(amount) => {
-                let short = amount as i64 - self.room as i64;
+                let short = i64::from(amount) - i64::from(self.room);
                 write!(f, ", {short} too few")
             }
         }
@@ -56,7 +54,7 @@ impl fmt::Display for Want {
 
     fn fmt<W: fmt::Write>(&self, f: &mut fmt::Formatter<W>) -> fmt::Result {
         let names = Names(self.group);
-        let room = Minutes(self.room as i64);
+        let room = Minutes(i64::from(self.room));
         let lack = Lack {
             amount: self.amount,
             room: self.room,
@@ -79,14 +77,15 @@ pub struct Denial {
 impl fmt::Display for Denial {
     ghost output = { λ d. Some (denial_of d.line d.form d.refusal) };
 
+    #[tactic(auto, using(crate::proofs::Denying::plain))]
     fn fmt<W: fmt::Write>(&self, f: &mut fmt::Formatter<W>) -> fmt::Result {
         let line = self.line;
         let form = self.form;
         let refusal = self.refusal;
         let number = refusal.number();
         let lead = Lead { line, form };
-        match Kind::of(refusal) {
-            Kind::Tight { group, room } => {
+        match refusal {
+            Refusal::WantOfRoom { group, room } => {
                 let want = Want {
                     group,
                     room,
@@ -94,11 +93,11 @@ impl fmt::Display for Denial {
                 };
                 write!(f, "{lead}refused ({number}), {want}.")
             }
-            Kind::Open => write!(
+            Refusal::LeftOpen => write!(
                 f,
                 "The group of payments that line {line} began was open at the end: it is undone."
             ),
-            Kind::Plain => write!(f, "{lead}refused ({number}), {refusal}."),
+            _ => write!(f, "{lead}refused ({number}), {refusal}."),
         }
     }
 }

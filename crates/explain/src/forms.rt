@@ -11,25 +11,20 @@ use batch::sheet::SheetLine;
 fn form_at(batch: &[u8], line: usize) -> Option<Form>
     ensures { result ≡ form_at line (steps_of batch.now) }
 {
-    for step in Reader::new(batch) {
-        if step.line == line {
-            return step.form.ok();
-        }
-    }
-    None
+    Reader::new(batch)
+        .find(|step| step.line == line)
+        .and_then(|step| step.form.ok())
 }
 
 // The form of the batch line that a sheet line names, if it names one.
-pub(crate) fn form_for(batch: &[u8], line: SheetLine) -> Option<Form>
-    ensures { result ≡ form_for (steps_of batch.now) line }
+pub(crate) fn form_for(batch: &[u8], answer: SheetLine) -> Option<Form>
+    ensures { result ≡ form_for (steps_of batch.now) answer }
 {
-    match line {
-        SheetLine::Done { line: n } => form_at(batch, n),
-        SheetLine::Kept { line: n } => form_at(batch, n),
-        SheetLine::Undone { line: n } => form_at(batch, n),
-        SheetLine::Refused { line: n, .. } => form_at(batch, n),
-        SheetLine::Net { .. } => None,
-        SheetLine::Debt { .. } => None,
-        SheetLine::End => None,
+    match answer {
+        SheetLine::Done { line }
+        | SheetLine::Kept { line }
+        | SheetLine::Undone { line }
+        | SheetLine::Refused { line, .. } => form_at(batch, line),
+        SheetLine::Net { .. } | SheetLine::Debt { .. } | SheetLine::End => None,
     }
 }

@@ -4,10 +4,8 @@
 mod asks;
 mod denial;
 mod forms;
-mod kind;
 mod minutes;
 mod names;
 pub mod sentence;
-mod side;
 mod standing;
 pub mod whole;

@@ -21,7 +21,7 @@ fn outcome(form: Option<Form>) -> &'static str
     ensures { result.now ≡ outcome_of form }
 {
     match form {
-        Some(Form::Try { .. }) => "it can",
+        Some(Form::Try(_)) => "it can",
         _ => "done",
     }
 }

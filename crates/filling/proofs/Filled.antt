@@ -1,19 +1,22 @@
 -- What fillings leave: a flow of what they sent, no room negative, and lines and places as they were.
-use Rattle.std.proofs.Common.{◌≡◌, ℕ, ◌+◌, ◌<◌, ◌≤◌, true, ◌&&◌, leb, List, length, get_or, drop, ℤ, pos, ◌+ℤ◌, ◌-ℤ◌, neg_ℤ, ◌≤ℤ◌, sym, refl, ◌∙◌, subst, ⊎_elim, arith}
-use lib.Signed.{le_z}
+use Rattle.std.proofs.Common.{◌≡◌, ℕ, ◌<◌, ◌≤◌, true, List, length, get_or, drop, ℤ, pos, ◌+ℤ◌, ◌-ℤ◌, neg_ℤ, ◌≤ℤ◌, sym, refl, ◌∙◌, subst, ⊎_elim, arith}
 use Rattle.std.proofs.lemmas.Int.{ints}
-use Rattle.std.proofs.lemmas.Bool.{and_parts, and_from, leb-true, le-leb}
+use Rattle.std.proofs.lemmas.List.{get_or_default}
+use Rattle.std.proofs.lemmas.Bool.Decides.{nat_tests}
 use Rattle.credit.specs.declared.line.Line.{Line}
+use Rattle.credit.specs.declared.payment.Payment.{Payment}
 use Rattle.credit.specs.Sums.{every}
 use Rattle.credit.specs.Net.{no_line, bounded}
 use Rattle.credit.specs.Plans.{booked, moved, Flow, fits, room_from}
-use Rattle.credit.specs.Pairs.{joins}
 use Rattle.credit.proofs.Sums.{every_at}
-use Rattle.credit.proofs.Bounds.{le_z_order, le_z_test, bounded_facts, roomy_facts}
+use Rattle.credit.proofs.Bounds.{le_z_order, bounded_facts, roomy_facts}
 use Rattle.credit.proofs.Sends.{flow_none, flow_add, roomy_at}
-use Rattle.routing.specs.Meaning.{usable}
-use Rattle.filling.specs.Fillings.{sent_along, Over, room_at, Least, Filling, Fills, Fillings, none, more}
-use Rattle.filling.proofs.Along.{along_length, along_behind, along_flow, along_fits}
+use Rattle.filling.proofs.Along.{leads_parts, along_length, along_behind, along_flow, along_fits}
+use Rattle.credit.specs.Refusals.{passes}
+use Rattle.routing.specs.Meaning.{usable, router_checks}
+use Rattle.routing.proofs.Passing.{passed_facts, passed_from}
+use Rattle.filling.specs.declared.chain.Hop.{Hop}
+use Rattle.filling.specs.Fillings.{no_hop, sent_along, Over, room_over, Least, Filling, Fills, Fillings, none, more}
 
 -- ---- lines and plan that a router takes
 pub record Usable (ls : List Line) (plan : List ℤ) : Type 0 where
@@ -24,48 +27,64 @@ pub record Usable (ls : List Line) (plan : List ℤ) : Type 0 where
 
 pub usable_facts : (ls : List Line) (plan : List ℤ) → usable ls plan ≡ true → Usable ls plan
 usable_facts ls plan e =
-    let f = and_parts (leb (length ls) 256) (every bounded ls && (leb (length ls) (length plan) && fits ls plan)) e in
-    let g = and_parts (every bounded ls) (leb (length ls) (length plan) && fits ls plan) f.1 in
-    let h = and_parts (leb (length ls) (length plan)) (fits ls plan) g.1 in
-    record { few = leb-true (length ls) 256 f.0; sound = g.0; long = leb-true (length ls) (length plan) h.0; fit = h.1 }
+    record { few = grind (arith, nat_tests); sound = grind (arith, nat_tests); long = grind (arith, nat_tests); fit = grind (arith, nat_tests) }
 
 pub usable_from : (ls : List Line) (plan : List ℤ) → Usable ls plan → usable ls plan ≡ true
-usable_from ls plan u =
-    and_from (leb (length ls) 256) (every bounded ls && (leb (length ls) (length plan) && fits ls plan)) (le-leb (length ls) 256 u.few)
-    (and_from (every bounded ls) (leb (length ls) (length plan) && fits ls plan) u.sound
-    (and_from (leb (length ls) (length plan)) (fits ls plan) (le-leb (length ls) (length plan) u.long) u.fit))
+usable_from ls plan u = grind (arith, nat_tests, u.few, u.sound, u.long, u.fit)
+
+pub passed_usable : (ls : List Line) (pay : Payment) (plan : List ℤ) → router_checks ls pay plan ≡ passes → usable ls plan ≡ true
+passed_usable ls pay plan e =
+    let p = passed_facts ls pay plan e in
+    usable_from ls plan (record { few = p.few; sound = p.sound; long = p.long; fit = p.fit })
+
+-- what is still to send of a payment passes with another plan
+pub rest_passes : (ls : List Line) (pay rest : Payment) (entry plan : List ℤ) → router_checks ls pay entry ≡ passes → rest.payer ≡ pay.payer → rest.payee ≡ pay.payee
+    → pos 1 ≤ℤ rest.amount → rest.amount ≤ℤ pay.amount → usable ls plan ≡ true → router_checks ls rest plan ≡ passes
+rest_passes ls pay rest entry plan h e f low high k =
+    let p = passed_facts ls pay entry h in
+    let u = usable_facts ls plan k in
+    passed_from ls rest plan (record {
+      payer = subst (λ m. m < 64) (sym e) p.payer;
+      payee = subst (λ m. m < 64) (sym f) p.payee;
+      apart = rw (e, f) p.apart;
+      low = low;
+      high = omega (arith, ints, p.high);
+      few = u.few;
+      sound = u.sound;
+      long = u.long;
+      fit = u.fit;
+    })
+
+-- a plan number is within the two trusts
+pub number_bounds : (ls : List Line) (plan : List ℤ) (i : ℕ) → Usable ls plan → i < length ls → (neg_ℤ (pos 2000000) ≤ℤ get_or plan i (pos 0)) × (get_or plan i (pos 0) ≤ℤ pos 2000000)
+number_bounds ls plan i u h =
+    let l = get_or ls i no_line in
+    let b = bounded_facts l (every_at bounded ls i no_line u.sound h) in
+    let r = roomy_facts (moved l (get_or plan i (pos 0))) (roomy_at ls plan i h (omega (arith, u.long)) u.fit) in
+    (omega (arith, ints), omega (arith, ints))
 
 -- ---- one filling
 -- the room of a step is at least the least
-pub over_room : (ls : List Line) (least : ℤ) (chain places : List ℕ) (i : ℕ) → Over ls least chain places i → least ≤ℤ room_at ls chain places i
-over_room ls least chain places i o =
-    let l = get_or ls (get_or places i 0) no_line in
-    le_z_order least (room_from l (get_or chain i 0))
-    (and_parts (joins (get_or chain i 0) (get_or chain (i + 1) 0) l) (le_z least (room_from l (get_or chain i 0))) o.1).1
-
--- a line that leads with some room leads with whatever room it has
-pub over_at : (ls : List Line) (least x : ℤ) (chain places : List ℕ) (i : ℕ) → Over ls least chain places i → x ≤ℤ room_at ls chain places i → Over ls x chain places i
-over_at ls least x chain places i o h =
-    let l = get_or ls (get_or places i 0) no_line in (
-      o.0,
-      and_from (joins (get_or chain i 0) (get_or chain (i + 1) 0) l) (le_z x (room_from l (get_or chain i 0)))
-          (and_parts (joins (get_or chain i 0) (get_or chain (i + 1) 0) l) (le_z least (room_from l (get_or chain i 0))) o.1).0
-          (le_z_test x (room_from l (get_or chain i 0)) h),
-    )
-
-at_least : (a x y : ℤ) → x ≡ y → a ≤ℤ y → a ≤ℤ x
-at_least a x y e h = subst (λ t. a ≤ℤ t) (sym e) h
+over_room : (ls : List Line) (least : ℤ) (chain : List ℕ) (i : ℕ) (h : Hop) → Over ls least chain i h → least ≤ℤ room_over ls h
+over_room ls least chain i h o =
+    subst (λ m. least ≤ℤ room_from (get_or ls h.place no_line) m) (sym o.0) (le_z_order least _ (leads_parts (get_or ls h.place no_line) least _ _ o.1.1).1)
 
 one_more : (a b c : ℤ) → a ≤ℤ b → b ≤ℤ c → a ≤ℤ c
 one_more a b c h k = omega (arith, ints)
 
--- something is sent
-pub least_some : (ls : List Line) (least : ℤ) (chain places : List ℕ) (k : ℕ) (left x : ℤ) → pos 1 ≤ℤ least → pos 1 ≤ℤ left
-    → ((i : ℕ) → i < k → Over ls least chain places i) → Least ls chain places k left x → pos 1 ≤ℤ x
-least_some ls least chain places k left x h l over v =
-    ⊎_elim (λ e. at_least (pos 1) x left e l)
-    (λ e. at_least (pos 1) x (room_at ls chain places e.0) e.2 (one_more (pos 1) least (room_at ls chain places e.0) h (over_room ls least chain places e.0 (over e.0 e.1))))
+-- what is no more than the least and what is still to send is no more than what is sent
+pub sent_bound : (ls : List Line) (least : ℤ) (chain : List ℕ) (hops : List Hop) (left x b : ℤ)
+    → ((i : ℕ) → i < length hops → Over ls least chain i (get_or hops i no_hop)) → Least ls hops left x → b ≤ℤ left → b ≤ℤ least → b ≤ℤ x
+sent_bound ls least chain hops left x b over v l h =
+    ⊎_elim (λ e. subst (λ t. b ≤ℤ t) (sym e) l)
+    (λ e. subst (λ t. b ≤ℤ t) (sym e.4)
+    (one_more b least (room_over ls e.1) h
+    (subst (λ t. least ≤ℤ room_over ls t) (get_or_default hops e.0 no_hop e.1 e.2 ∙ e.3) (over_room ls least chain e.0 _ (over e.0 e.2)))))
     v.met
+
+-- a filling moves at least 1 where each step has room of at least 1
+pub filling_some : (ls : List Line) (p q : ℕ) (least left : ℤ) (plan : List ℤ) (chain : List ℕ) (hops : List Hop) (x : ℤ) → Filling ls p q least left plan chain hops x → pos 1 ≤ℤ least → pos 1 ≤ℤ x
+filling_some ls p q least left plan chain hops x f h = sent_bound (booked ls plan) least chain hops left x (pos 1) f.over f.amount f.some h
 
 -- what a change of the plan leaves
 pub record Left (ls : List Line) (p q : ℕ) (n : ℤ) (from to : List ℤ) : Type 0 where
@@ -77,18 +96,18 @@ pub record Left (ls : List Line) (p q : ℕ) (n : ℤ) (from to : List ℤ) : Ty
 le_down : (x : ℤ) → pos 1 ≤ℤ x → pos 0 ≤ℤ x
 le_down x h = omega (arith, ints)
 
-pub filling_leaves : (ls : List Line) (p q : ℕ) (least left : ℤ) (plan : List ℤ) (chain places : List ℕ) (k : ℕ) (x : ℤ) → Usable ls plan → pos 1 ≤ℤ least
-    → Filling ls p q least left plan chain places k x → Left ls p q x plan (sent_along ls chain places x k plan)
-filling_leaves ls p q least left plan chain places k x u h f =
+pub filling_leaves : (ls : List Line) (p q : ℕ) (least left : ℤ) (plan : List ℤ) (chain : List ℕ) (hops : List Hop) (x : ℤ) → Usable ls plan → pos 1 ≤ℤ least
+    → Filling ls p q least left plan chain hops x → Left ls p q x plan (sent_along ls hops x plan)
+filling_leaves ls p q least left plan chain hops x u h f =
     let s = f.shortest in
-    let low = least_some (booked ls plan) least chain places k left x h f.some f.over f.amount in
+    let to = sent_along ls hops x plan in
+    let low = le_down x (filling_some ls p q least left plan chain hops x f h) in
     record {
-      flow = subst (λ t. Flow ls t q x plan (sent_along ls chain places x k plan)) s.chain.first
-          (subst (λ t. Flow ls (get_or chain 0 0) t x plan (sent_along ls chain places x k plan)) s.chain.last
-          (along_flow ls plan u.long least chain places k s.apart f.over x k (omega arith)));
-      fit = along_fits ls plan u.long least chain places k s.apart f.over x u.fit (le_down x low) f.amount.within k (omega arith);
-      long = along_length ls plan u.long least chain places k s.apart f.over x k;
-      behind = along_behind ls plan u.long least chain places k s.apart f.over x k (omega arith);
+      flow = subst (λ t. Flow ls t q x plan to) s.chain.first
+          (subst (λ t. Flow ls (get_or chain 0 0) t x plan to) s.chain.last (along_flow ls plan u.long least chain hops s.apart f.over x));
+      fit = along_fits ls plan u.long least chain hops s.apart f.over x u.fit low f.amount.within;
+      long = along_length ls plan u.long least chain hops s.apart f.over x;
+      behind = along_behind ls plan u.long least chain hops s.apart f.over x;
     }
 
 pub usable_left : (ls : List Line) (p q : ℕ) (n : ℤ) (from to : List ℤ) → Usable ls from → Left ls p q n from to → Usable ls to
@@ -111,44 +130,22 @@ left_add ls p q a b x y z f g =
 pub fillings_leave : (ls : List Line) (p q : ℕ) (least : ℤ) {left : ℤ} {plan : List ℤ} {rest : ℤ} {mid : List ℤ} → Usable ls plan → pos 1 ≤ℤ least
     → Fillings ls p q least left plan rest mid → Left ls p q (left -ℤ rest) plan mid
 fillings_leave ls p q least {left} {plan} u h none = subst (λ t. Left ls p q t plan plan) (nothing left) (left_none ls p q plan u)
-fillings_leave ls p q least {left} {plan} u h (more {rest = rest} {mid = mid} chain places k x fs f) =
+fillings_leave ls p q least {left} {plan} u h (more {rest = rest} {mid = mid} chain hops x fs f) =
     let l = fillings_leave ls p q least u h fs in
-    let o = filling_leaves ls p q least rest mid chain places k x (usable_left ls p q (left -ℤ rest) plan mid u l) h f in
-    subst (λ t. Left ls p q t plan (sent_along ls chain places x k mid)) (together left rest x) (left_add ls p q (left -ℤ rest) x plan mid (sent_along ls chain places x k mid) l o)
-
--- ---- along a chain, step by step
-pub along_usable : (ls : List Line) (plan : List ℤ) (chain places : List ℕ) (k : ℕ) (x : ℤ) → Usable ls plan
-    → ((i j : ℕ) → i ≤ k → j ≤ k → get_or chain i 0 ≡ get_or chain j 0 → i ≡ j) → ((i : ℕ) → i < k → Over (booked ls plan) x chain places i) → pos 0 ≤ℤ x
-    → (i : ℕ) → i ≤ k → Usable ls (sent_along ls chain places x i plan)
-along_usable ls plan chain places k x u apart over low i h =
-    record {
-      few = u.few;
-      sound = u.sound;
-      long = subst (λ t. length ls ≤ t) (sym (along_length ls plan u.long x chain places k apart over x i)) u.long;
-      fit = along_fits ls plan u.long x chain places k apart over x u.fit low (λ j l. over_room (booked ls plan) x chain places j (over j l)) i h;
-    }
-
--- a plan number is within the two trusts
-pub number_bounds : (ls : List Line) (plan : List ℤ) (i : ℕ) → Usable ls plan → i < length ls → (neg_ℤ (pos 2000000) ≤ℤ get_or plan i (pos 0)) × (get_or plan i (pos 0) ≤ℤ pos 2000000)
-number_bounds ls plan i u h =
-    let l = get_or ls i no_line in
-    let b = bounded_facts l (every_at bounded ls i no_line u.sound h) in
-    let r = roomy_facts (moved l (get_or plan i (pos 0))) (roomy_at ls plan i h (omega (arith, u.long)) u.fit) in
-    (omega (arith, ints), omega (arith, ints))
+    let o = filling_leaves ls p q least rest mid chain hops x (usable_left ls p q (left -ℤ rest) plan mid u l) h f in
+    subst (λ t. Left ls p q t plan (sent_along ls hops x mid)) (together left rest x) (left_add ls p q (left -ℤ rest) x plan mid (sent_along ls hops x mid) l o)
 
 -- ---- a filling told by its plans
-module _ (ls : List Line) (p q : ℕ) (least left : ℤ) (from : List ℤ) (x : ℤ) (to : List ℤ) (f : Fills ls p q least left from x to) where
-  pub fills_some : pos 1 ≤ℤ least → pos 1 ≤ℤ x
-  fills_some h = least_some (booked ls from) least f.0 f.1 f.2 left x h f.3.some f.3.over f.3.amount
+module _ (ls : List Line) (pay : Payment) (least : ℤ) (from : List ℤ) (x : ℤ) (to : List ℤ) (f : Fills ls pay least from x to) (h : pos 1 ≤ℤ least) where
+  pub fills_some : pos 1 ≤ℤ x
+  fills_some = filling_some ls pay.payer pay.payee least pay.amount from f.0 f.1 x f.2 h
 
-  pub fills_most : x ≤ℤ left
-  fills_most = f.3.amount.most
-
-  pub fills_usable : usable ls from ≡ true → pos 1 ≤ℤ least → usable ls to ≡ true
-  fills_usable e h =
+  pub fills_usable : usable ls from ≡ true → usable ls to ≡ true
+  fills_usable e =
       let u = usable_facts ls from e in
-      let l = filling_leaves ls p q least left from f.0 f.1 f.2 x u h f.3 in
-      subst (λ t. usable ls t ≡ true) (sym f.4) (usable_from ls (sent_along ls f.0 f.1 x f.2 from) (usable_left ls p q x from _ u l))
+      let l = filling_leaves ls pay.payer pay.payee least pay.amount from f.0 f.1 x u h f.2 in
+      subst (λ t. usable ls t ≡ true) (sym f.3) (usable_from ls (sent_along ls f.1 x from) (usable_left ls pay.payer pay.payee x from _ u l))
 
-  pub fills_more : (start : ℤ) (plan : List ℤ) → Fillings ls p q least start plan left from → Fillings ls p q least start plan (left -ℤ x) to
-  fills_more start plan fs = subst (λ t. Fillings ls p q least start plan (left -ℤ x) t) (sym f.4) (more f.0 f.1 f.2 x fs f.3)
+pub fills_more : (ls : List Line) (pay : Payment) (least start : ℤ) (plan from to : List ℤ) (x : ℤ) → Fillings ls pay.payer pay.payee least start plan pay.amount from
+    → Fills ls pay least from x to → Fillings ls pay.payer pay.payee least start plan (pay.amount -ℤ x) to
+fills_more ls pay least start plan from to x fs f = subst (λ t. Fillings ls pay.payer pay.payee least start plan (pay.amount -ℤ x) t) (sym f.3) (more f.0 f.1 x fs f.2)

@@ -1,56 +1,37 @@
--- The least room of a chain, step by step.
-use Rattle.std.proofs.Common.{◌≡◌, ℕ, ◌+◌, ◌<◌, Bool, true, false, cond, ◌⊎◌, List, ℤ, ◌≤ℤ◌, sym, refl, subst, inl, inr, ⊎_elim, arith}
-use lib.Signed.{lt_z}
-use Rattle.std.proofs.lemmas.Int.{ints}
+-- The least room of a chain, hop by hop.
+use Rattle.std.proofs.Common.{◌≡◌, ℕ, ◌+◌, ◌<◌, List, length, get_or, map, take, ℤ, ◌≤ℤ◌, sym, ap, ◌∙◌, subst, inl, inr, ⊎_elim, arith, rules}
+use Rattle.std.proofs.lemmas.Int.{fold-int_min_bounds, fold-int_min_reached}
+use Rattle.std.proofs.lemmas.List.{get_or_default, get_or-map, length-map}
+use Rattle.std.proofs.lemmas.List.Folds.{fold-map}
+use Rattle.std.proofs.lemmas.List.Sums.{fold_more}
 use Rattle.std.specs.Int.{int_min}
 use Rattle.credit.specs.declared.line.Line.{Line}
-use Rattle.filling.specs.Fillings.{room_at, Least}
+use Rattle.credit.proofs.Booked.{booked_at}
+use Rattle.filling.specs.declared.chain.Hop.{Hop}
+use Rattle.filling.specs.Fillings.{no_hop, room_over, least_over, Least}
 
-last_or_before : (j i : ℕ) → j < i + 1 → (j < i) ⊎ (j ≡ i)
-last_or_before j i h = grind arith
+pub ruleset rooms = (rules, booked_at)
 
-le_refl : (x : ℤ) → x ≤ℤ x
-le_refl x = omega (arith, ints)
+abbrev lesser : List Line → ℤ → Hop → ℤ
+lesser ls least h = int_min least (room_over ls h)
 
-le_trans : (x y z : ℤ) → x ≤ℤ y → y ≤ℤ z → x ≤ℤ z
-le_trans x y z h k = omega (arith, ints)
+-- a hop more
+pub least_more : (ls : List Line) (hops : List Hop) (left x : ℤ) (i : ℕ) → i < length hops → x ≡ least_over ls (take i hops) left
+    → int_min x (room_over ls (get_or hops i no_hop)) ≡ least_over ls (take (i + 1) hops) left
+least_more ls hops left x i h e = ap (λ t. int_min t (room_over ls (get_or hops i no_hop))) e ∙ sym (fold_more (lesser ls) left hops i no_hop h)
 
-not_lt : (x y : ℤ) → lt_z y x ≡ false → x ≤ℤ y
-not_lt x y h = omega (arith, ints)
-
-lt_le : (x y : ℤ) → lt_z x y ≡ true → x ≤ℤ y
-lt_le x y h = omega (arith, ints)
-
-module _ (ls : List Line) (chain places : List ℕ) (left : ℤ) where
-  pub least_none : Least ls chain places 0 left left
-  least_none = record { most = le_refl left; within = λ i h. absurd (omega arith); met = inl refl }
-
-  -- a step with less room
-  least_less : (i : ℕ) (x y : ℤ) → Least ls chain places i left x → y ≡ room_at ls chain places i → lt_z y x ≡ true → Least ls chain places (i + 1) left y
-  least_less i x y v e h =
-      let down = lt_le y x h in
-      record {
-        most = le_trans y x left down v.most;
-        within = λ j l.
-            ⊎_elim (λ b. le_trans y x (room_at ls chain places j) down (v.within j b))
-            (λ s. subst (λ t. y ≤ℤ room_at ls chain places t) (sym s) (subst (λ t. y ≤ℤ t) e (le_refl y))) (last_or_before j i l);
-        met = inr (i, omega arith, e);
-      }
-
-  -- a step with no less room
-  least_same : (i : ℕ) (x y : ℤ) → Least ls chain places i left x → y ≡ room_at ls chain places i → lt_z y x ≡ false → Least ls chain places (i + 1) left x
-  least_same i x y v e h =
-      record {
-        most = v.most;
-        within = λ j l.
-            ⊎_elim (λ b. v.within j b) (λ s. subst (λ t. x ≤ℤ room_at ls chain places t) (sym s) (subst (λ t. x ≤ℤ t) e (not_lt x y h))) (last_or_before j i l);
-        met = ⊎_elim (λ s. inl s) (λ s. inr (s.0, omega (arith, s.1), s.2)) v.met;
-      }
-
-  -- a step more
-  pub least_more : (i : ℕ) (x y : ℤ) → Least ls chain places i left x → y ≡ room_at ls chain places i → Least ls chain places (i + 1) left (int_min x y)
-  least_more i x y v e = by (lt_z y x) refl
-    where
-      by : (t : Bool) → lt_z y x ≡ t → Least ls chain places (i + 1) left (cond t y x)
-      by true h = least_less i x y v e h
-      by false h = least_same i x y v e h
+-- what the fold gives is the least
+pub least_all : (ls : List Line) (hops : List Hop) (left x : ℤ) → x ≡ least_over ls hops left → Least ls hops left x
+least_all ls hops left x e =
+    let rooms = map (room_over ls) hops in
+    let f = e ∙ sym (fold-map int_min (room_over ls) left hops) in
+    let b = fold-int_min_bounds left rooms x f in
+    record {
+      most = b.0;
+      within = λ k d h. subst (λ r. x ≤ℤ r) (get_or-map (room_over ls) hops k d x h) (b.1 k x (omega (arith, h, length-map hops (room_over ls))));
+      met = ⊎_elim (λ s. inl s)
+          (λ s. let h : s.0 < length hops = omega (arith, s.1, length-map hops (room_over ls)) in
+          let d = get_or hops s.0 no_hop in
+          inr (s.0, d, h, get_or_default hops s.0 d no_hop h, sym s.2 ∙ get_or-map (room_over ls) hops s.0 no_hop x h))
+          (fold-int_min_reached left rooms x f);
+    }

@@ -1,6 +1,5 @@
 pub mod Stacks
 pub mod Restores
-pub mod Closes
 pub mod Shapes
 pub mod Steps
 pub mod Opens

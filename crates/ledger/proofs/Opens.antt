@@ -1,7 +1,8 @@
 -- The line between two members, and what a new line keeps.
-use Rattle.std.proofs.Common.{◌≡◌, ℕ, zero, suc, ◌+◌, ◌<◌, ◌≤◌, Bool, true, false, cond, not, ◌&&◌, ◌||◌, eqb, ltb, leb, ◌≢◌, List, [], ◌∷◌, ◌++◌, length, get_or, drop, ℤ, pos, neg_ℤ, is_some, Some, None, Option, refl, ap, ◌∙◌, subst, ap₂, add-one, arith}
+use Rattle.std.proofs.Common.{◌≡◌, ℕ, ◌<◌, Bool, true, false, cond, not, ◌&&◌, ◌||◌, eqb, ltb, leb, ◌≢◌, List, [], ◌∷◌, ◌++◌, length, ℤ, pos, neg_ℤ, ◌≤ℤ◌, is_some, Some, Option, refl, ap, ◌∙◌, subst, ap₂, arith}
 use mathlib.Core.Bool.{and_comm}
 use lib.Signed.{le_z}
+use Rattle.std.specs.List.{list_any}
 use Rattle.std.proofs.lemmas.Int.{ints}
 use Rattle.std.proofs.lemmas.Bool.{and_parts, and_from, or_parts, or_from, not-true, not-false, ltb-true, ltb-false, lt-ltb, eqb-false, leb-false}
 use Rattle.credit.specs.declared.line.Line.{Line}
@@ -10,7 +11,7 @@ use Rattle.credit.specs.Refusals.{passes}
 use Rattle.credit.specs.Sums.{every}
 use Rattle.credit.specs.Net.{in_trust, bounded}
 use Rattle.credit.specs.Pairs.{joins, joined, distinct}
-use Rattle.credit.proofs.Bounds.{le_z_test, le_z_order}
+use Rattle.credit.proofs.Bounds.{le_z_test, le_z_order, bounded_facts}
 use Rattle.routing.specs.Meaning.{not_members}
 use Rattle.rings.proofs.Rings.{eqb_sym}
 use Rattle.ledger.specs.Between.{line_between}
@@ -18,48 +19,30 @@ use Rattle.ledger.specs.States.{State}
 use Rattle.ledger.specs.Checks.{none_open, open_checks}
 use Rattle.ledger.specs.Calls.{new_line}
 use Rattle.credit.proofs.Tables.{check_passes}
+use Rattle.ledger.proofs.Stacks.{every_push}
 
 -- ---- the line between two members
-between_is : (x y : ℕ) (l : Line) (ls : List Line) (b : Bool) → joins x y l ≡ b → line_between x y (l ∷ ls) ≡ cond b (Some l) (line_between x y ls)
-between_is x y l ls b e = ap (λ t. cond t (Some l) (line_between x y ls)) e
-
-pub between_here : (x y : ℕ) (ls : List Line) (i : ℕ) (d : Line) → i < length ls → joins x y (get_or ls i d) ≡ true → line_between x y (drop i ls) ≡ Some (get_or ls i d)
-between_here x y [] i d h e = absurd (omega arith)
-between_here x y (l ∷ ls) zero d h e = between_is x y l ls true e
-between_here x y (l ∷ ls) (suc i) d h e = between_here x y ls i d (omega arith) e
-
-between_suc : (x y : ℕ) (ls : List Line) (i : ℕ) (d : Line) → i < length ls → joins x y (get_or ls i d) ≡ false → line_between x y (drop i ls) ≡ line_between x y (drop (suc i) ls)
-between_suc x y [] i d h e = absurd (omega arith)
-between_suc x y (l ∷ ls) zero d h e = between_is x y l ls false e
-between_suc x y (l ∷ ls) (suc i) d h e = between_suc x y ls i d (omega arith) e
-
-pub between_more : (x y : ℕ) (ls : List Line) (i : ℕ) (d : Line) → i < length ls → joins x y (get_or ls i d) ≡ false → line_between x y (drop i ls) ≡ line_between x y (drop (i + 1) ls)
-between_more x y ls i d h e = rw add-one (between_suc x y ls i d h e)
-
-pub between_past : (x y : ℕ) (ls : List Line) (i : ℕ) → length ls ≤ i → line_between x y (drop i ls) ≡ None
-between_past x y [] zero h = refl
-between_past x y [] (suc i) h = refl
-between_past x y (l ∷ ls) zero h = absurd (omega arith)
-between_past x y (l ∷ ls) (suc i) h = between_past x y ls i (omega arith)
-
-joined_step : (l : Line) (o : Option Line) (b t : Bool) → is_some o ≡ t → is_some (cond b (Some l) o) ≡ (b || t)
-joined_step l o true t e = refl
-joined_step l o false t e = e
-
-pub joined_is : (x y : ℕ) (ls : List Line) → is_some (line_between x y ls) ≡ joined x y ls
-joined_is x y [] = refl
-joined_is x y (l ∷ ls) = joined_step l (line_between x y ls) (joins x y l) (joined x y ls) (joined_is x y ls)
+-- whether two members have a line, as a test of each line
+pub joined_any : (x y : ℕ) (ls : List Line) → list_any (joins x y) ls ≡ joined x y ls
+joined_any x y [] = refl
+joined_any x y (l ∷ ls) = ap (λ t. joins x y l || t) (joined_any x y ls)
 
 -- it is one of the lines
 between_bounded : (l m : Line) (o : Option Line) (b : Bool) → bounded l ≡ true → (o ≡ Some m → bounded m ≡ true) → cond b (Some l) o ≡ Some m → bounded m ≡ true
 between_bounded l m o true k ih e = let f : l ≡ m = cc in subst (λ v. bounded v ≡ true) f k
 between_bounded l m o false k ih e = ih e
 
-pub line_bounded : (x y : ℕ) (ls : List Line) (m : Line) → every bounded ls ≡ true → line_between x y ls ≡ Some m → bounded m ≡ true
-line_bounded x y [] m b e = let z : ◌≡◌ {A = ℕ} 0 1 = cc in absurd (omega arith)
+line_bounded : (x y : ℕ) (ls : List Line) (m : Line) → every bounded ls ≡ true → line_between x y ls ≡ Some m → bounded m ≡ true
+line_bounded x y [] m b e = cc
 line_bounded x y (l ∷ ls) m b e =
     let p = and_parts (bounded l) (every bounded ls) b in
     between_bounded l m (line_between x y ls) (joins x y l) p.0 (line_bounded x y ls m p.1) e
+
+-- so its debt is at most the largest trust, either way
+pub line_debt : (x y : ℕ) (ls : List Line) (m : Line) → every bounded ls ≡ true → line_between x y ls ≡ Some m → (neg_ℤ (pos 1000000) ≤ℤ m.debt) × (m.debt ≤ℤ pos 1000000)
+line_debt x y ls m b e =
+    let f = bounded_facts m (line_bounded x y ls m b e) in
+    (omega (arith, ints, f.least, f.no_more_b), omega (arith, ints, f.most, f.no_more_a))
 
 -- ---- what the checks of an opening leave
 pub record Openable (s : State) (x y : ℕ) (t u : ℤ) : Type 0 where
@@ -97,12 +80,6 @@ openable s x y t u h =
     }
 
 -- ---- what a new line keeps
-every_push : (ls : List Line) (l : Line) → every bounded ls ≡ true → bounded l ≡ true → every bounded (ls ++ l ∷ []) ≡ true
-every_push [] l e b = and_from (bounded l) true b refl
-every_push (x ∷ ls) l e b =
-    let h = and_parts (bounded x) (every bounded ls) e in
-    and_from (bounded x) (every bounded (ls ++ l ∷ [])) h.0 (every_push ls l h.1 b)
-
 new_bounded : (x y : ℕ) (t u : ℤ) → x < 64 → y < 64 → x ≢ y → in_trust t ≡ true → in_trust u ≡ true → bounded (new_line x y t u) ≡ true
 new_bounded x y t u hx hy ne ht hu = go (ltb x y) refl
   where
@@ -148,7 +125,7 @@ distinct_push (l ∷ ls) x y t u d j =
     (distinct_push ls x y t u h.1 k.1)
 
 pub opened_bounds : (s : State) (x y : ℕ) (t u : ℤ) → Openable s x y t u → every bounded s.lines ≡ true → every bounded (s.lines ++ new_line x y t u ∷ []) ≡ true
-opened_bounds s x y t u o b = every_push s.lines (new_line x y t u) b (new_bounded x y t u o.first o.second o.apart o.trust o.back)
+opened_bounds s x y t u o b = every_push bounded s.lines (new_line x y t u) b (new_bounded x y t u o.first o.second o.apart o.trust o.back)
 
 pub opened_pairs : (s : State) (x y : ℕ) (t u : ℤ) → Openable s x y t u → distinct s.lines ≡ true → distinct (s.lines ++ new_line x y t u ∷ []) ≡ true
 opened_pairs s x y t u o d = distinct_push s.lines x y t u d o.unjoined

@@ -10,7 +10,7 @@ use Rattle.ledger.specs.States.{State}
 use Rattle.ledger.specs.Calls.{after_refusal}
 
 abbrev pub held_or : Result Reservation Refusal → Answer
-held_or (Ok v) = Reserved v.payer v.payee v.amount
+held_or (Ok v) = Reserved v.payment
 held_or (Err e) = Refused e
 
 abbrev pub booked_or : Result (Unit {0}) Unbooked → Answer

@@ -1,5 +1,6 @@
 -- The line between two members, and the debt on it.
-use Rattle.std.specs.Prelude.{ℕ, cond, not, ◌&&◌, List, [], ◌∷◌, length, ℤ, neg_ℤ, Some, None, Option, ◌==◌, nat_le}
+use Rattle.std.specs.Prelude.{ℕ, cond, not, ◌&&◌, List, length, ℤ, neg_ℤ, Some, None, Option, ◌==◌, nat_le}
+use Rattle.std.specs.List.{find}
 use Rattle.credit.specs.declared.line.Line.{Line}
 use Rattle.credit.specs.declared.refusal.Refusal.TheVariants.{NoSuchMember, SameMember, OutOfRange, PairHasLine, TooManyLines}
 use Rattle.credit.specs.Refusals.{Verdict, passes, check}
@@ -9,8 +10,7 @@ use Rattle.routing.specs.Meaning.{not_members}
 
 -- the line that joins two members; at most one does
 abbrev pub line_between : ℕ → ℕ → List Line → Option Line
-line_between x y [] = None
-line_between x y (l ∷ ls) = cond (joins x y l) (Some l) (line_between x y ls)
+line_between x y ls = find (joins x y) ls
 
 -- what the other member of a line owes x
 abbrev pub owed_to : ℕ → Line → ℤ

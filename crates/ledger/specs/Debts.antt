@@ -1,11 +1,10 @@
 -- The debts of lines, and lines with other debts.
-use Rattle.std.specs.Prelude.{List, [], ◌∷◌, ℤ, pos}
+use Rattle.std.specs.Prelude.{List, [], ◌∷◌, map, ℤ, pos}
 use Rattle.credit.specs.declared.line.Line.{Line}
 use Rattle.credit.specs.Plans.{with_debt}
 
 abbrev pub debts : List Line → List ℤ
-debts [] = []
-debts (l ∷ ls) = l.debt ∷ debts ls
+debts ls = map (λ l. l.debt) ls
 
 -- the lines with other debts, 0 where none is given
 abbrev pub with_debts : List Line → List ℤ → List Line

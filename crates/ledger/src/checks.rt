@@ -1,22 +1,22 @@
 // The checks of the calls, in their order.
 ghost use Rattle.std.specs.Prelude.{◌≡◌, ◌<◌, false, length, is_some, OnOk};
 ghost use Rattle.ledger.specs.States.{state_of};
-ghost use Rattle.ledger.specs.Checks.{inmost_spoiled, none_open, matches, pay_checks, book_checks, open_checks, begin_checks, close_checks};
+ghost use Rattle.ledger.specs.Checks.{inmost_spoiled, none_open, pay_checks, open_checks, begin_checks, close_checks};
 ghost use Rattle.credit.specs.Pairs.{joined};
 ghost use Rattle.ledger.specs.Calls.{spoils};
 ghost use Rattle.ledger.specs.Between.{line_checks};
 
-use crate::lines::line_between;
-use crate::reservation::Reservation;
 use crate::state::Ledger;
 use credit::line::{Line, in_trust};
+use credit::payment::Payment;
 use credit::refusal::Refusal;
+use routing::checks::{checked, pair};
 
 // Whether the pair has a line.
 fn is_joined(lines: &[Line], first: u32, second: u32) -> bool
     ensures { result ≡ joined first second lines.now }
 {
-    line_between(lines, first, second).is_some()
+    lines.iter().any(|line| line.joins(first, second))
 }
 
 // Of the arguments of a new line, and of the lines that there are.
@@ -29,12 +29,7 @@ fn line_checks(
 ) -> Result<(), Refusal>
     ensures { result ≡ line_checks lines.now first second trust back }
 {
-    if first >= 64 || second >= 64 {
-        return Err(Refusal::NoSuchMember);
-    }
-    if first == second {
-        return Err(Refusal::SameMember);
-    }
+    pair(first, second)?;
     if !(in_trust(trust) && in_trust(back)) {
         return Err(Refusal::OutOfRange);
     }
@@ -51,13 +46,13 @@ fn line_checks(
 pub(crate) fn spoiling(refusal: &Refusal) -> bool
     ensures { result ≡ spoils refusal.now }
 {
-    match refusal {
+    matches!(
+        refusal,
         Refusal::NoSuchMember
-        | Refusal::SameMember
-        | Refusal::OutOfRange
-        | Refusal::WantOfRoom { .. } => true,
-        _ => false,
-    }
+            | Refusal::SameMember
+            | Refusal::OutOfRange
+            | Refusal::WantOfRoom { .. }
+    )
 }
 
 impl Ledger {
@@ -65,15 +60,9 @@ impl Ledger {
     pub(crate) fn inmost_spoiled(&self) -> bool
         ensures { result ≡ inmost_spoiled (state_of self.now).groups }
     {
-        let depth = self.savepoints.len();
-        depth > 0 && self.savepoints[depth - 1].spoiled
-    }
-
-    // The number of open groups of payments.
-    pub(crate) fn depth(&self) -> usize
-        ensures { result ≡ length (state_of self.now).groups }
-    {
-        self.savepoints.len()
+        self.savepoints
+            .last()
+            .is_some_and(|savepoint| savepoint.spoiled)
     }
 
     pub(crate) fn none_open(&self) -> bool
@@ -82,36 +71,18 @@ impl Ledger {
         self.savepoints.is_empty()
     }
 
-    // Of pay and reserve, before a router is asked.
-    pub(crate) fn pay_checks(
-        &self,
-        places: usize,
-        payer: u32,
-        payee: u32,
-        amount: i32,
-    ) -> Result<(), Refusal>
-        ensures verdict { result ≡ pay_checks (state_of self.now) places payer payee amount }
+    // Of pay and reserve with a sheet of 256 places, before a router is asked.
+    pub(crate) fn pay_checks(&self, payment: Payment) -> Result<(), Refusal>
+        ensures verdict { result ≡ pay_checks (state_of self.now) 256 payment }
         ensures vacant { OnOk result (is_some self.now.standing ≡ false) }
     {
-        if places != 256 {
-            return Err(Refusal::BadPlanSheet);
-        }
         if self.standing.is_some() {
             return Err(Refusal::ReservationStands);
         }
         if self.inmost_spoiled() {
             return Err(Refusal::Spoiled);
         }
-        if payer >= 64 || payee >= 64 {
-            return Err(Refusal::NoSuchMember);
-        }
-        if payer == payee {
-            return Err(Refusal::SameMember);
-        }
-        if amount < 1 || amount > 1_000_000 {
-            return Err(Refusal::OutOfRange);
-        }
-        Ok(())
+        checked(payment)
     }
 
     // Of the opening of a line.
@@ -140,7 +111,7 @@ impl Ledger {
         if self.standing.is_some() {
             return Err(Refusal::ReservationStands);
         }
-        if self.depth() >= 8 {
+        if self.open_groups() >= 8 {
             return Err(Refusal::TooManySavepoints);
         }
         Ok(())

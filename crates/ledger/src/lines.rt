@@ -8,7 +8,6 @@ ghost use Rattle.ledger.specs.Checks.{open_checks};
 ghost use Rattle.ledger.specs.Calls.{Does, new_line, opened};
 ghost use Rattle.calls.specs.Answers.{done_or};
 
-use crate::reservation::Claim;
 use crate::state::{Ledger, Savepoint};
 use credit::line::Line;
 use credit::refusal::Refusal;
@@ -18,34 +17,24 @@ use std::alloc::{AllocError, Global};
 pub(crate) fn line_between(lines: &[Line], first: u32, second: u32) -> Option<Line>
     ensures { result ≡ line_between first second lines.now }
 {
-    for line in lines {
-        if line.joins(first, second) {
-            return Some(*line);
-        }
-    }
-    None
+    lines.iter().copied().find(|line| line.joins(first, second))
 }
 
 // A line without debt; the first trusts the second for `trust`, the second the first for `back`.
 fn new_line(first: u32, second: u32, trust: i32, back: i32) -> Line
     ensures { result ≡ new_line first second trust back }
 {
-    if first < second {
-        Line {
-            a: first,
-            b: second,
-            trust_a: trust,
-            trust_b: back,
-            debt: 0,
-        }
+    let (a, b, trust_a, trust_b) = if first < second {
+        (first, second, trust, back)
     } else {
-        Line {
-            a: second,
-            b: first,
-            trust_a: back,
-            trust_b: trust,
-            debt: 0,
-        }
+        (second, first, back, trust)
+    };
+    Line {
+        a,
+        b,
+        trust_a,
+        trust_b,
+        debt: 0,
     }
 }
 

@@ -1,5 +1,5 @@
 // Payments.
-ghost use Rattle.std.specs.Prelude.{◌≡◌, length};
+ghost use Rattle.std.specs.Prelude.{◌≡◌, length, replicate, pos};
 ghost use Rattle.calls.specs.declared.call.Call.TheVariants.{Pay};
 ghost use Rattle.ledger.specs.States.{state_of};
 ghost use Rattle.ledger.specs.Calls.{Does};
@@ -8,6 +8,7 @@ ghost use Rattle.ledger.specs.Answers.{cleared, noted};
 
 use crate::plan_guard::PlanGuard;
 use crate::state::Ledger;
+use credit::payment::Payment;
 use credit::refusal::Refusal;
 use routing::router::Router;
 
@@ -16,38 +17,46 @@ impl Ledger {
     fn try_pay<R: Router>(
         &mut self,
         router: &mut R,
-        payer: u32,
-        payee: u32,
-        amount: i32,
-        plan: &mut [i32],
+        payment: Payment,
+        plan: &mut [i32; 256],
     ) -> Result<(), Refusal>
-        requires { length plan.old ≡ 256 }
-        ensures { Does (state_of self.old) (Pay 256 payer payee amount) (done_or result) (noted result (state_of self.new)) }
+        ensures { Does (state_of self.old) (Pay 256 payment) (done_or result) (noted result (state_of self.new)) }
     {
-        self.pay_checks(plan.len(), payer, payee, amount)?;
-        self.ask(router, payer, payee, amount, plan)?;
+        self.pay_checks(payment)?;
+        self.ask(router, payment, plan)?;
         self.enter(plan);
         Ok(())
     }
 
-    // Pays an amount from payer to payee along routes that the router finds.
+    // Pays with a plan sheet of 256 places.
+    fn pay_on<R: Router>(
+        &mut self,
+        router: &mut R,
+        payment: Payment,
+        plan: &mut [i32; 256],
+    ) -> Result<(), Refusal>
+        ensures sheet { plan.new ≡ replicate 256 (pos 0) }
+        ensures answer { Does (state_of self.old) (Pay 256 payment) (done_or result) (state_of self.new) }
+    {
+        let guard = PlanGuard { plan };
+        let paid = self.try_pay(router, payment, guard.plan);
+        self.note(&paid);
+        paid
+    }
+
+    // Pays along routes that the router finds.
     pub fn pay<R: Router>(
         &mut self,
         router: &mut R,
-        payer: u32,
-        payee: u32,
-        amount: i32,
+        payment: Payment,
         plan: &mut [i32],
     ) -> Result<(), Refusal>
         ensures sheet { plan.new ≡ cleared plan.old }
-        ensures answer { Does (state_of self.old) (Pay (length plan.old) payer payee amount) (done_or result) (state_of self.new) }
+        ensures answer { Does (state_of self.old) (Pay (length plan.old) payment) (done_or result) (state_of self.new) }
     {
-        if plan.len() != 256 {
-            return Err(Refusal::BadPlanSheet);
+        match plan.as_mut_array() {
+            Some(plan) => self.pay_on(router, payment, plan),
+            None => Err(Refusal::BadPlanSheet),
         }
-        let guard = PlanGuard { plan };
-        let paid = self.try_pay(router, payer, payee, amount, guard.plan);
-        self.note(&paid);
-        paid
     }
 }

@@ -5,7 +5,8 @@ ghost use Rattle.credit.specs.Net.{net, net_table, bounded};
 ghost use Rattle.credit.specs.Rooms.{room};
 ghost use Rattle.ledger.specs.States.{state_of};
 ghost use Rattle.ledger.specs.Between.{owed_to, debt_between};
-ghost use Rattle.ledger.specs.Checks.{member_checks, pair_checks};
+ghost use Rattle.routing.specs.Meaning.{pair_checks};
+ghost use Rattle.ledger.specs.Checks.{member_checks};
 ghost use Rattle.ledger.specs.Questions.{answered};
 
 use crate::lines::line_between;
@@ -15,6 +16,7 @@ use credit::net;
 use credit::refusal::Refusal;
 use credit::room::group_room;
 use members::group::Group;
+use routing::checks::pair;
 
 // What the other member of a line owes this one.
 fn owed_to(line: &Line, member: u32) -> i32
@@ -59,12 +61,7 @@ impl Ledger {
     pub fn debt_between(&self, first: u32, second: u32) -> Result<Option<i32>, Refusal>
         ensures { result ≡ answered (pair_checks first second) (debt_between first second (state_of self.now).lines) }
     {
-        if first >= 64 || second >= 64 {
-            return Err(Refusal::NoSuchMember);
-        }
-        if first == second {
-            return Err(Refusal::SameMember);
-        }
+        pair(first, second)?;
         Ok(self.debt_on(first, second))
     }
 
@@ -72,10 +69,7 @@ impl Ledger {
     fn debt_on(&self, first: u32, second: u32) -> Option<i32>
         ensures { result ≡ debt_between first second self.now.lines.items }
     {
-        match line_between(&self.lines, first, second) {
-            None => None,
-            Some(line) => Some(owed_to(&line, first)),
-        }
+        line_between(&self.lines, first, second).map(|line| owed_to(&line, first))
     }
 
     // The room of a group: the rooms of all lines from an insider to an outsider.
@@ -96,7 +90,7 @@ impl Ledger {
     pub fn open_groups(&self) -> usize
         ensures { result ≡ length (state_of self.now).groups }
     {
-        self.depth()
+        self.savepoints.len()
     }
 
     pub fn reservation_stands(&self) -> bool

@@ -1,19 +1,21 @@
-// Reservations: the token that a caller holds, and what the ledger keeps of it.
+// Reservations: the token that a caller holds.
+ghost use Rattle.std.specs.Prelude.{◌≡◌};
+
+use credit::payment::Payment;
 use credit::refusal::Refusal;
 
-// The three numbers of the standing reservation, as the ledger keeps them.
-#[derive(Clone, Copy, Debug, PartialEq, Eq)]
-pub struct Claim {
-    pub payer: u32,
-    pub payee: u32,
-    pub amount: i32,
+// A token for a reservation of a payment. It is not `Drop`: it must be booked or released.
+pub struct Reservation {
+    pub(crate) payment: Payment,
 }
 
-// A token for a reservation. It is not `Drop`: it must be booked or released.
-pub struct Reservation {
-    pub(crate) payer: u32,
-    pub(crate) payee: u32,
-    pub(crate) amount: i32,
+impl Reservation {
+    // The payment that is reserved.
+    pub fn payment(&self) -> Payment
+        ensures { result ≡ self.now.payment }
+    {
+        self.payment
+    }
 }
 
 // A refused booking, which hands the token back.

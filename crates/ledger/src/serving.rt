@@ -3,16 +3,16 @@ ghost use Rattle.std.specs.Prelude.{◌≡◌, ℕ, true, false, length, is_some
 ghost use Rattle.credit.specs.Refusals.{passes};
 ghost use Rattle.credit.specs.Plans.{booked, fits};
 ghost use Rattle.routing.specs.Meaning.{Routes};
-ghost use Rattle.ledger.specs.Sound.{proper as proper_claim, strained};
+ghost use Rattle.ledger.specs.Sound.{proper, strained};
 ghost use Rattle.ledger.specs.States.{state_of, with_lines, with_standing};
 ghost use Rattle.ledger.specs.Checks.{matches};
-ghost use Rattle.ledger.specs.Calls.{blank, claim as claim_of};
+ghost use Rattle.ledger.specs.Calls.{blank};
 ghost use Rattle.ledger.specs.Answers.{noted};
 
 use crate::checks::spoiling;
-use crate::reservation::{Claim, Reservation};
 use crate::state::Ledger;
 use credit::booking::book;
+use credit::payment::Payment;
 use credit::refusal::Refusal;
 use routing::router::Router;
 
@@ -21,61 +21,46 @@ impl Ledger {
     pub(crate) fn ask<R: Router>(
         &self,
         router: &mut R,
-        payer: u32,
-        payee: u32,
-        amount: i32,
-        plan: &mut [i32],
+        payment: Payment,
+        plan: &mut [i32; 256],
     ) -> Result<(), Refusal>
-        requires { length plan.old ≡ 256 }
-        ensures routes { Routes self.now.lines.items payer payee amount blank result plan.new }
+        ensures routes { Routes self.now.lines.items payment blank result plan.new }
         ensures fit { OnOk result (fits self.now.lines.items plan.new ≡ true) }
-        ensures proper { OnOk result (proper_claim (Some (claim_of payer payee amount)) ≡ true) }
-        ensures ample { OnOk result ((g : ℕ) → strained (Some (claim_of payer payee amount)) g self.now.lines.items ≡ false) }
+        ensures proper { OnOk result (proper (Some payment) ≡ true) }
+        ensures ample { OnOk result ((g : ℕ) → strained (Some payment) g self.now.lines.items ≡ false) }
     {
         plan.fill(0);
-        router.route(&self.lines, payer, payee, amount, plan)
+        router.route(&self.lines, payment, plan)
     }
 
     // Routes a payment for which a reservation stands. No router refuses it, since the lines keep its room.
     pub(crate) fn route_reserved<R: Router>(
         &self,
         router: &mut R,
-        reservation: &Reservation,
-        plan: &mut [i32],
+        payment: Payment,
+        plan: &mut [i32; 256],
     )
-        requires places { length plan.old ≡ 256 }
-        requires stands { matches self.now.standing reservation.now.payer reservation.now.payee reservation.now.amount ≡ true }
-        ensures routes { Routes self.now.lines.items reservation.now.payer reservation.now.payee reservation.now.amount blank passes plan.new }
+        requires { matches self.now.standing payment ≡ true }
+        ensures routes { Routes self.now.lines.items payment blank passes plan.new }
         ensures fit { fits self.now.lines.items plan.new ≡ true }
     {
-        let _ = self.ask(
-            router,
-            reservation.payer,
-            reservation.payee,
-            reservation.amount,
-            plan,
-        );
+        let _ = self.ask(router, payment, plan);
     }
 
-    // Whether a reservation with these numbers stands.
-    pub(crate) fn holds(&self, reservation: &Reservation) -> bool
-        ensures { result ≡ matches self.now.standing reservation.now.payer reservation.now.payee reservation.now.amount }
+    // Whether a reservation for this payment stands.
+    pub(crate) fn holds(&self, payment: Payment) -> bool
+        ensures { result ≡ matches self.now.standing payment }
     {
-        match self.standing {
-            None => false,
-            Some(claim) => claim.payer == reservation.payer
-                && claim.payee == reservation.payee
-                && claim.amount == reservation.amount,
-        }
+        self.standing == Some(payment)
     }
 
     // Lets a reservation stand that the lines have room for.
-    pub(crate) fn hold(&mut self, claim: Claim)
-        requires proper { proper_claim (Some claim) ≡ true }
-        requires ample { (g : ℕ) → strained (Some claim) g self.old.lines.items ≡ false }
-        ensures { state_of self.new ≡ with_standing (state_of self.old) (Some claim) }
+    pub(crate) fn hold(&mut self, payment: Payment)
+        requires proper { proper (Some payment) ≡ true }
+        requires ample { (g : ℕ) → strained (Some payment) g self.old.lines.items ≡ false }
+        ensures { state_of self.new ≡ with_standing (state_of self.old) (Some payment) }
     {
-        self.standing = Some(claim);
+        self.standing = Some(payment);
     }
 
     // Ends the standing reservation.

@@ -3,15 +3,17 @@ ghost use Rattle.std.specs.Prelude.{◌≡◌, ℕ, ◌≤◌, true, false, vec_
 ghost use Rattle.credit.specs.Sums.{every};
 ghost use Rattle.credit.specs.Net.{bounded};
 ghost use Rattle.credit.specs.Pairs.{distinct};
-ghost use Rattle.ledger.specs.Sound.{restorable, proper, strained};
+ghost use Rattle.ledger.specs.Sound.{complete, restorable, proper, strained};
 
-use crate::reservation::Claim;
+use arrayvec::ArrayVec;
 use credit::line::Line;
+use credit::payment::Payment;
 
 // An open group of payments: the debts as at its begin, line by line, and whether it is spoiled.
-#[derive(Clone, Copy)]
+#[derive(Drop)]
 pub struct Savepoint {
-    pub debts: [i32; 256],
+    pub debts: ArrayVec<i32, 256>,
+    // a flag: the debts are kept either way, so two cases with the same field would be no plainer
     pub spoiled: bool,
 }
 
@@ -21,13 +23,14 @@ pub struct Savepoint {
 pub struct Ledger {
     pub(crate) lines: Vec<Line>,
     pub(crate) savepoints: Vec<Savepoint>,
-    pub(crate) standing: Option<Claim>,
+    pub(crate) standing: Option<Payment>,
     ghost few: { vec_len lines ≤ 256 },
     ghost wide: { 256 ≤ vec_capacity lines },
     ghost bounds: { every bounded lines.items ≡ true },
     ghost pairs: { distinct lines.items ≡ true },
     ghost shallow: { vec_len savepoints ≤ 8 },
     ghost deep: { 8 ≤ vec_capacity savepoints },
+    ghost complete: { complete lines.items savepoints.items ≡ true },
     ghost kept: { restorable lines.items savepoints.items ≡ true },
     ghost proper: { proper standing ≡ true },
     ghost fitting: { (g : ℕ) → strained standing g lines.items ≡ false },

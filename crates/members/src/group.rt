@@ -4,7 +4,7 @@ ghost use Rattle.members.specs.Groups.{inside, members_of};
 use crate::bits;
 
 // A group of members, bit m for member m.
-#[derive(Clone, Copy, Debug, PartialEq, Eq)]
+#[derive(Clone, Copy, Debug, Default, PartialEq, Eq)]
 pub struct Group {
     pub bits: u64,
 }

@@ -4,6 +4,7 @@ use mathlib.Core.Path.{fun_ext}
 use Rattle.std.proofs.lemmas.Int.{ints}
 use Rattle.std.specs.List.{range_with_len}
 use Rattle.credit.specs.declared.line.Line.{Line}
+use Rattle.credit.specs.declared.payment.Payment.{Payment}
 use Rattle.credit.specs.declared.refusal.Refusal.{Refusal}
 use Rattle.credit.specs.declared.refusal.Refusal.TheVariants.{NoSuchMember, SameMember, OutOfRange, ReservationStands, Spoiled, PairHasLine, TooManyLines, SavepointOpen, TooManySavepoints, NoSavepoint, NoSuchReservation, BadPlanSheet}
 use Rattle.credit.specs.Refusals.{Verdict, passes, check, number_of}
@@ -12,18 +13,17 @@ use Rattle.credit.specs.Rooms.{room, trust, net_inside}
 use Rattle.credit.specs.Pairs.{joined}
 use Rattle.credit.specs.Plans.{with_debt, booked}
 use Rattle.credit.proofs.Rooms.{ends_bounded, room_is, trust_into_ext}
-use Rattle.routing.specs.Meaning.{not_members, payment, Routes}
+use Rattle.routing.specs.Meaning.{not_members, payment_checks, Routes}
 use Rattle.rings.specs.Rings.{Tidied}
 use Rattle.rings.proofs.Rings.{shape, joined_shape, distinct_shape, tidied_keeps}
 use Rattle.calls.specs.declared.call.Call.{Call}
 use Rattle.calls.specs.declared.call.Call.TheVariants.{Open, Pay, Reserve, Book, Release, Begin, End, Abandon, Tidy}
 use Rattle.calls.specs.declared.call.Answer.{Answer}
 use Rattle.calls.specs.declared.call.Answer.TheVariants.{Done, Released, Kept, Undone}
-use Rattle.ledger.specs.declared.reservation.Claim.{Claim}
 use Rattle.ledger.specs.Debts.{with_debts}
 use Rattle.ledger.specs.States.{OpenGroup, State, with_lines, with_groups, with_standing}
 use Rattle.ledger.specs.Checks.{inmost_spoiled, none_open, matches, pay_checks, book_checks, open_checks, begin_checks, close_checks}
-use Rattle.ledger.specs.Calls.{blank, new_line, opened, claim, begun, closed, spoils, spoil_inmost, after_refusal, Paid, Pays, Held, Reserves, Books, Plain, Does}
+use Rattle.ledger.specs.Calls.{blank, new_line, opened, begun, closed, spoils, spoil_inmost, after_refusal, Paid, Pays, Held, Reserves, Books, Plain, Does}
 use Rattle.ledger.proofs.Shapes.{shape_booked, shape_with_debts, length_shape, room_alike}
 use Rattle.ledger.proofs.Steps.{Checked, pay_checked, refused_tells, routed_fits}
 use Rattle.replay.specs.Runs.{Turn, latest, Run, calls, net_tables, Reply, refused, reply, replies}
@@ -31,9 +31,6 @@ use Rattle.replay.specs.History.{Event, event, trust_set, tally_by, tally}
 use Rattle.replay.specs.Law.{room_by, Short, LacksRoom, LacksRight, RoomRule, RoomDecides, Law}
 use Rattle.replay.proofs.Keeps.{Good, Follows, few_lines, step_keeps}
 use Rattle.replay.proofs.Tally.{Known, known, tallied, Counted, next, counted}
-
-no : {A : Type 0} → ◌≡◌ {A = ℕ} 0 1 → A
-no e = absurd (omega arith)
 
 -- ---- room decides
 room_by_lem : (ts : List Turn) → Known ts → (g : ℕ) → room g (latest ts).lines ≡ room_by g ts
@@ -47,35 +44,35 @@ PassedOn (Ok u) r = LacksRoom r → ⊥
 PassedOn (Err e) r = r ≡ refused (number_of e)
 
 -- a router refuses exactly where a group is short of room
-lacks_right : (ts : List Turn) (p q : ℕ) (n : ℤ) (r : Reply) → Known ts → Checked p q n → (v : Verdict) (plan : List ℤ) → Routes (latest ts).lines p q n blank v plan → PassedOn v r → (LacksRoom r → Short ts p q n) × (Short ts p q n → LacksRoom r)
-lacks_right ts p q n r k c (Ok u) plan d o = ((λ e. absurd (o e)), (λ sh. absurd (clash sh)))
+lacks_right : (ts : List Turn) (pay : Payment) (r : Reply) → Known ts → Checked pay → (v : Verdict) (plan : List ℤ) → Routes (latest ts).lines pay blank v plan → PassedOn v r → (LacksRoom r → Short ts pay) × (Short ts pay → LacksRoom r)
+lacks_right ts pay r k c (Ok u) plan d o = ((λ e. absurd (o e)), (λ sh. absurd (clash sh)))
   where
-    clash : Short ts p q n → ⊥
-    clash sh = omega (arith, ints, routed_fits (latest ts).lines p q n plan k.good.bounds d sh.0 sh.2 sh.3, room_by_lem ts k sh.0, sh.4)
-lacks_right ts p q n r k c (Err e) plan d o =
-    let t = refused_tells (latest ts).lines p q n e plan k.good.bounds (few_lines (latest ts) k.good) c d in
-    ((λ _. (t.group.bits, t.word, t.payer, t.payee, subst (λ (v : ℤ). v <ℤ n) (room_by_lem ts k t.group.bits) t.less)), (λ _. o ∙ ap (λ (x : Refusal). refused (number_of x)) t.named))
+    clash : Short ts pay → ⊥
+    clash sh = omega (arith, ints, routed_fits (latest ts).lines pay plan k.good.bounds d sh.0 sh.2 sh.3, room_by_lem ts k sh.0, sh.4)
+lacks_right ts pay r k c (Err e) plan d o =
+    let t = refused_tells (latest ts).lines pay e plan k.good.bounds (few_lines (latest ts) k.good) c d in
+    ((λ _. (t.group.bits, t.word, t.payer, t.payee, subst (λ (v : ℤ). v <ℤ pay.amount) (room_by_lem ts k t.group.bits) t.less)), (λ _. o ∙ ap (λ (x : Refusal). refused (number_of x)) t.named))
 
-right_pay : (ts : List Turn) (k p q : ℕ) (n : ℤ) (r : Answer) (s' : State) → Known ts → Does (latest ts) (Pay k p q n) r s' → LacksRight k p q n ts (reply r)
-right_pay ts k p q n r s' kn d h = let f = subst (λ (v : Verdict). Pays v (latest ts) p q n r s') h d in lacks_right ts p q n (reply r) kn (pay_checked (latest ts) k p q n h).1 f.0 f.1 f.2 (on f.0 f.1 f.3)
+right_pay : (ts : List Turn) (k : ℕ) (pay : Payment) (r : Answer) (s' : State) → Known ts → Does (latest ts) (Pay k pay) r s' → LacksRight k pay ts (reply r)
+right_pay ts k pay r s' kn d h = let f = subst (λ (v : Verdict). Pays v (latest ts) pay r s') h d in lacks_right ts pay (reply r) kn (pay_checked (latest ts) k pay h).1 f.0 f.1 f.2 (on f.0 f.1 f.3)
   where
     on : (v : Verdict) (plan : List ℤ) → Paid v plan (latest ts) r s' → PassedOn v (reply r)
-    on (Ok u) plan t = λ e. let f = ap reply t.0 in let z : ◌≡◌ {A = ℕ} 0 1 = cc in no z
+    on (Ok u) plan t = λ e. let f = ap reply t.0 in cc
     on (Err x) plan t = ap reply t.0
 
-right_reserve : (ts : List Turn) (k p q : ℕ) (n : ℤ) (r : Answer) (s' : State) → Known ts → Does (latest ts) (Reserve k p q n) r s' → LacksRight k p q n ts (reply r)
-right_reserve ts k p q n r s' kn d h = let f = subst (λ (v : Verdict). Reserves v (latest ts) p q n r s') h d in lacks_right ts p q n (reply r) kn (pay_checked (latest ts) k p q n h).1 f.0 f.1 f.2 (on f.0 f.3)
+right_reserve : (ts : List Turn) (k : ℕ) (pay : Payment) (r : Answer) (s' : State) → Known ts → Does (latest ts) (Reserve k pay) r s' → LacksRight k pay ts (reply r)
+right_reserve ts k pay r s' kn d h = let f = subst (λ (v : Verdict). Reserves v (latest ts) pay r s') h d in lacks_right ts pay (reply r) kn (pay_checked (latest ts) k pay h).1 f.0 f.1 f.2 (on f.0 f.3)
   where
-    on : (v : Verdict) → Held v p q n (latest ts) r s' → PassedOn v (reply r)
-    on (Ok u) t = λ e. let f = ap reply t.0 in let z : ◌≡◌ {A = ℕ} 0 1 = cc in no z
+    on : (v : Verdict) → Held v pay (latest ts) r s' → PassedOn v (reply r)
+    on (Ok u) t = λ e. let f = ap reply t.0 in cc
     on (Err x) t = ap reply t.0
 
 rule : (c : Call) (ts : List Turn) (r : Answer) (s' : State) → Known ts → Does (latest ts) c r s' → RoomRule c ts (reply r)
 rule (Open x y t u) ts r s' k d = tt
-rule (Pay k p q n) ts r s' kn d = right_pay ts k p q n r s' kn d
-rule (Reserve k p q n) ts r s' kn d = right_reserve ts k p q n r s' kn d
-rule (Book k p q n) ts r s' kn d = tt
-rule (Release p q n) ts r s' kn d = tt
+rule (Pay k pay) ts r s' kn d = right_pay ts k pay r s' kn d
+rule (Reserve k pay) ts r s' kn d = right_reserve ts k pay r s' kn d
+rule (Book k pay) ts r s' kn d = tt
+rule (Release pay) ts r s' kn d = tt
 rule Begin ts r s' kn d = tt
 rule End ts r s' kn d = tt
 rule Abandon ts r s' kn d = tt
@@ -118,23 +115,23 @@ same_spoil (g ∷ gs) [] e = cc
 same_spoil (g ∷ gs) (h ∷ hs) e = let f : flags gs ≡ flags hs = cc in ap (λ (v : List Bool). true ∷ v) f
 
 module _ (s t : State) (k : Alike s t) where
-  pay_same : (z p q : ℕ) (n : ℤ) → pay_checks s z p q n ≡ pay_checks t z p q n
-  pay_same z p q n = ap₂ (λ (st : Option Claim) (b : Bool). check (not (eqb z 256)) BadPlanSheet (check (is_some st) ReservationStands (check b Spoiled (payment p q n passes)))) k.held (same_inmost s.groups t.groups k.spoilt)
+  pay_same : (z : ℕ) (pay : Payment) → pay_checks s z pay ≡ pay_checks t z pay
+  pay_same z pay = ap₂ (λ (st : Option Payment) (b : Bool). check (not (eqb z 256)) BadPlanSheet (check (is_some st) ReservationStands (check b Spoiled (payment_checks pay passes)))) k.held (same_inmost s.groups t.groups k.spoilt)
 
-  book_same : (z p q : ℕ) (n : ℤ) → book_checks s z p q n ≡ book_checks t z p q n
-  book_same z p q n = ap (λ (st : Option Claim). check (not (eqb z 256)) BadPlanSheet (check (not (matches st p q n)) NoSuchReservation passes)) k.held
+  book_same : (z : ℕ) (pay : Payment) → book_checks s z pay ≡ book_checks t z pay
+  book_same z pay = ap (λ (st : Option Payment). check (not (eqb z 256)) BadPlanSheet (check (not (matches st pay)) NoSuchReservation passes)) k.held
 
   begin_same : begin_checks s ≡ begin_checks t
-  begin_same = ap₂ (λ (st : Option Claim) (b : ℕ). check (is_some st) ReservationStands (check (leb 8 b) TooManySavepoints passes)) k.held (same_count s.groups ∙ ap length k.spoilt ∙ sym (same_count t.groups))
+  begin_same = ap₂ (λ (st : Option Payment) (b : ℕ). check (is_some st) ReservationStands (check (leb 8 b) TooManySavepoints passes)) k.held (same_count s.groups ∙ ap length k.spoilt ∙ sym (same_count t.groups))
 
   close_same : close_checks s ≡ close_checks t
-  close_same = ap₂ (λ (st : Option Claim) (b : Bool). check (is_some st) ReservationStands (check b NoSavepoint passes)) k.held (same_open s.groups t.groups k.spoilt)
+  close_same = ap₂ (λ (st : Option Payment) (b : Bool). check (is_some st) ReservationStands (check b NoSavepoint passes)) k.held (same_open s.groups t.groups k.spoilt)
 
   open_same : (x y : ℕ) (u v : ℤ) → open_checks s x y u v ≡ open_checks t x y u v
   open_same x y u v =
       let j : joined x y s.lines ≡ joined x y t.lines = sym (joined_shape x y s.lines) ∙ ap (joined x y) k.shapes ∙ joined_shape x y t.lines in
       let l : length s.lines ≡ length t.lines = sym (length_shape s.lines) ∙ ap length k.shapes ∙ length_shape t.lines in
-      ap₂ (λ (st : Option Claim) (b : Bool). check (is_some st) ReservationStands (check (not b) SavepointOpen (check (not_members x y) NoSuchMember (check (eqb x y) SameMember (check (not (in_trust u && in_trust v)) OutOfRange (check (joined x y s.lines) PairHasLine (check (leb 256 (length s.lines)) TooManyLines passes))))))) k.held (same_open s.groups t.groups k.spoilt)
+      ap₂ (λ (st : Option Payment) (b : Bool). check (is_some st) ReservationStands (check (not b) SavepointOpen (check (not_members x y) NoSuchMember (check (eqb x y) SameMember (check (not (in_trust u && in_trust v)) OutOfRange (check (joined x y s.lines) PairHasLine (check (leb 256 (length s.lines)) TooManyLines passes))))))) k.held (same_open s.groups t.groups k.spoilt)
       ∙ ap₂ (λ (b : Bool) (m : ℕ). check (is_some t.standing) ReservationStands (check (not (none_open t.groups)) SavepointOpen (check (not_members x y) NoSuchMember (check (eqb x y) SameMember (check (not (in_trust u && in_trust v)) OutOfRange (check b PairHasLine (check (leb 256 m) TooManyLines passes))))))) j l
 
   -- refusals of one number spoil alike
@@ -145,7 +142,7 @@ module _ (s t : State) (k : Alike s t) where
       go true = record { shapes = k.shapes; spoilt = same_spoil s.groups t.groups k.spoilt; held = k.held }
       go false = k
 
-  alike_held : (st : Option Claim) → Alike (with_standing s st) (with_standing t st)
+  alike_held : (st : Option Payment) → Alike (with_standing s st) (with_standing t st)
   alike_held st = record { shapes = k.shapes; spoilt = k.spoilt; held = refl }
 
   alike_booked : (f g : List ℤ) → Alike (with_lines s (booked s.lines f)) (with_lines t (booked t.lines g))
@@ -163,8 +160,8 @@ module _ (s t : State) (k : Alike s t) where
 
       go : (gs hs : List OpenGroup) → flags gs ≡ flags hs → (b : Bool) → Alike (closed s gs b) (closed t hs b)
       go [] [] e b = k
-      go [] (h ∷ hs) e b = let z : ◌≡◌ {A = ℕ} 0 1 = cc in no z
-      go (g ∷ gs) [] e b = let z : ◌≡◌ {A = ℕ} 0 1 = cc in no z
+      go [] (h ∷ hs) e b = cc
+      go (g ∷ gs) [] e b = cc
       go (g ∷ gs) (h ∷ hs) e b = let f : flags gs ≡ flags hs = cc in record { shapes = lines b g.saved h.saved; spoilt = f; held = k.held }
 
   alike_opened : (x y : ℕ) (u v : ℤ) → Alike (opened s x y u v) (opened t x y u v)
@@ -194,56 +191,56 @@ abbrev pub Level : State → State → Type 0
 Level s t = (m : ℕ) → m < 64 → net m s.lines ≡ net m t.lines
 
 -- one routed and the other lacking room cannot be
-never_both : (s t : State) (p q : ℕ) (n : ℤ) (e : Refusal) (f g : List ℤ) → Good s → Good t → Alike s t → Level s t → Checked p q n → Routes s.lines p q n blank passes f → Routes t.lines p q n blank (Err e) g → ⊥
-never_both s t p q n e f g hs ht k lv c d o =
-    let x = refused_tells t.lines p q n e g ht.bounds (few_lines t ht) c o in
-    let fit : n ≤ℤ room x.group.bits s.lines = routed_fits s.lines p q n f hs.bounds d x.group.bits x.payer x.payee in
+never_both : (s t : State) (pay : Payment) (e : Refusal) (f g : List ℤ) → Good s → Good t → Alike s t → Level s t → Checked pay → Routes s.lines pay blank passes f → Routes t.lines pay blank (Err e) g → ⊥
+never_both s t pay e f g hs ht k lv c d o =
+    let x = refused_tells t.lines pay e g ht.bounds (few_lines t ht) c o in
+    let fit : pay.amount ≤ℤ room x.group.bits s.lines = routed_fits s.lines pay f hs.bounds d x.group.bits x.payer x.payee in
     omega (arith, ints, fit, x.less, room_alike x.group.bits s.lines t.lines (ends_bounded s.lines hs.bounds) (ends_bounded t.lines ht.bounds) k.shapes lv)
 
 alike_flip : (s t : State) → Alike s t → Alike t s
 alike_flip s t k = record { shapes = sym k.shapes; spoilt = sym k.spoilt; held = sym k.held }
 
 -- both refuse for want of room
-same_number : (s t : State) (p q : ℕ) (n : ℤ) (e x : Refusal) (f g : List ℤ) → Good s → Good t → Checked p q n → Routes s.lines p q n blank (Err e) f → Routes t.lines p q n blank (Err x) g → number_of e ≡ number_of x
-same_number s t p q n e x f g hs ht c d o =
-    ap number_of (refused_tells s.lines p q n e f hs.bounds (few_lines s hs) c d).named
-    ∙ sym (ap number_of (refused_tells t.lines p q n x g ht.bounds (few_lines t ht) c o).named)
+same_number : (s t : State) (pay : Payment) (e x : Refusal) (f g : List ℤ) → Good s → Good t → Checked pay → Routes s.lines pay blank (Err e) f → Routes t.lines pay blank (Err x) g → number_of e ≡ number_of x
+same_number s t pay e x f g hs ht c d o =
+    ap number_of (refused_tells s.lines pay e f hs.bounds (few_lines s hs) c d).named
+    ∙ sym (ap number_of (refused_tells t.lines pay x g ht.bounds (few_lines t ht) c o).named)
 
-twin_pay : (s t : State) (z p q : ℕ) (n : ℤ) (r a : Answer) (s' t' : State) → Good s → Good t → Alike s t → Level s t → Does s (Pay z p q n) r s' → Does t (Pay z p q n) a t' → Twin r a s' t'
-twin_pay s t z p q n r a s' t' hs ht k lv d f = go (pay_checks s z p q n) refl d (subst (λ (v : Verdict). Pays v t p q n a t') (sym (pay_same s t k z p q n)) f)
+twin_pay : (s t : State) (z : ℕ) (pay : Payment) (r a : Answer) (s' t' : State) → Good s → Good t → Alike s t → Level s t → Does s (Pay z pay) r s' → Does t (Pay z pay) a t' → Twin r a s' t'
+twin_pay s t z pay r a s' t' hs ht k lv d f = go (pay_checks s z pay) refl d (subst (λ (v : Verdict). Pays v t pay a t') (sym (pay_same s t k z pay)) f)
   where
-    by : (v w : Verdict) (f g : List ℤ) → Checked p q n → Routes s.lines p q n blank v f → Paid v f s r s' → Routes t.lines p q n blank w g → Paid w g t a t' → Twin r a s' t'
+    by : (v w : Verdict) (f g : List ℤ) → Checked pay → Routes s.lines pay blank v f → Paid v f s r s' → Routes t.lines pay blank w g → Paid w g t a t' → Twin r a s' t'
     by (Ok u) (Ok y) f g c m d o e = twin d.0 d.1 e.0 e.1 refl (alike_booked s t k f g)
-    by (Ok u) (Err y) f g c m d o e = absurd (never_both s t p q n y f g hs ht k lv c m o)
-    by (Err x) (Ok y) f g c m d o e = absurd (never_both t s p q n x g f ht hs (alike_flip s t k) (λ i j. sym (lv i j)) c o m)
-    by (Err x) (Err y) f g c m d o e = let h = same_number s t p q n x y f g hs ht c m o in twin d.0 d.1 e.0 e.1 (ap refused h) (alike_spoiled s t k x y h)
+    by (Ok u) (Err y) f g c m d o e = absurd (never_both s t pay y f g hs ht k lv c m o)
+    by (Err x) (Ok y) f g c m d o e = absurd (never_both t s pay x g f ht hs (alike_flip s t k) (λ i j. sym (lv i j)) c o m)
+    by (Err x) (Err y) f g c m d o e = let h = same_number s t pay x y f g hs ht c m o in twin d.0 d.1 e.0 e.1 (ap refused h) (alike_spoiled s t k x y h)
 
-    go : (v : Verdict) → pay_checks s z p q n ≡ v → Pays v s p q n r s' → Pays v t p q n a t' → Twin r a s' t'
-    go (Ok u) h d f = by d.0 f.0 d.1 f.1 (pay_checked s z p q n h).1 d.2 d.3 f.2 f.3
+    go : (v : Verdict) → pay_checks s z pay ≡ v → Pays v s pay r s' → Pays v t pay a t' → Twin r a s' t'
+    go (Ok u) h d f = by d.0 f.0 d.1 f.1 (pay_checked s z pay h).1 d.2 d.3 f.2 f.3
     go (Err e) h d f = twin d.0 d.1 f.0 f.1 refl (alike_spoiled s t k e e refl)
 
-twin_reserve : (s t : State) (z p q : ℕ) (n : ℤ) (r a : Answer) (s' t' : State) → Good s → Good t → Alike s t → Level s t → Does s (Reserve z p q n) r s' → Does t (Reserve z p q n) a t' → Twin r a s' t'
-twin_reserve s t z p q n r a s' t' hs ht k lv d f = go (pay_checks s z p q n) refl d (subst (λ (v : Verdict). Reserves v t p q n a t') (sym (pay_same s t k z p q n)) f)
+twin_reserve : (s t : State) (z : ℕ) (pay : Payment) (r a : Answer) (s' t' : State) → Good s → Good t → Alike s t → Level s t → Does s (Reserve z pay) r s' → Does t (Reserve z pay) a t' → Twin r a s' t'
+twin_reserve s t z pay r a s' t' hs ht k lv d f = go (pay_checks s z pay) refl d (subst (λ (v : Verdict). Reserves v t pay a t') (sym (pay_same s t k z pay)) f)
   where
-    by : (v w : Verdict) (f g : List ℤ) → Checked p q n → Routes s.lines p q n blank v f → Held v p q n s r s' → Routes t.lines p q n blank w g → Held w p q n t a t' → Twin r a s' t'
-    by (Ok u) (Ok y) f g c m d o e = twin d.0 d.1 e.0 e.1 refl (alike_held s t k (Some (claim p q n)))
-    by (Ok u) (Err y) f g c m d o e = absurd (never_both s t p q n y f g hs ht k lv c m o)
-    by (Err x) (Ok y) f g c m d o e = absurd (never_both t s p q n x g f ht hs (alike_flip s t k) (λ i j. sym (lv i j)) c o m)
-    by (Err x) (Err y) f g c m d o e = twin d.0 d.1 e.0 e.1 (ap refused (same_number s t p q n x y f g hs ht c m o)) k
+    by : (v w : Verdict) (f g : List ℤ) → Checked pay → Routes s.lines pay blank v f → Held v pay s r s' → Routes t.lines pay blank w g → Held w pay t a t' → Twin r a s' t'
+    by (Ok u) (Ok y) f g c m d o e = twin d.0 d.1 e.0 e.1 refl (alike_held s t k (Some pay))
+    by (Ok u) (Err y) f g c m d o e = absurd (never_both s t pay y f g hs ht k lv c m o)
+    by (Err x) (Ok y) f g c m d o e = absurd (never_both t s pay x g f ht hs (alike_flip s t k) (λ i j. sym (lv i j)) c o m)
+    by (Err x) (Err y) f g c m d o e = twin d.0 d.1 e.0 e.1 (ap refused (same_number s t pay x y f g hs ht c m o)) k
 
-    go : (v : Verdict) → pay_checks s z p q n ≡ v → Reserves v s p q n r s' → Reserves v t p q n a t' → Twin r a s' t'
-    go (Ok u) h d f = by d.0 f.0 d.1 f.1 (pay_checked s z p q n h).1 d.2 d.3 f.2 f.3
+    go : (v : Verdict) → pay_checks s z pay ≡ v → Reserves v s pay r s' → Reserves v t pay a t' → Twin r a s' t'
+    go (Ok u) h d f = by d.0 f.0 d.1 f.1 (pay_checked s z pay h).1 d.2 d.3 f.2 f.3
     go (Err e) h d f = twin d.0 d.1 f.0 f.1 refl k
 
-twin_book : (s t : State) (z p q : ℕ) (n : ℤ) (r a : Answer) (s' t' : State) → Alike s t → Does s (Book z p q n) r s' → Does t (Book z p q n) a t' → Twin r a s' t'
-twin_book s t z p q n r a s' t' k d f = go (book_checks s z p q n) d (subst (λ (v : Verdict). Books v t p q n a t') (sym (book_same s t k z p q n)) f)
+twin_book : (s t : State) (z : ℕ) (pay : Payment) (r a : Answer) (s' t' : State) → Alike s t → Does s (Book z pay) r s' → Does t (Book z pay) a t' → Twin r a s' t'
+twin_book s t z pay r a s' t' k d f = go (book_checks s z pay) d (subst (λ (v : Verdict). Books v t pay a t') (sym (book_same s t k z pay)) f)
   where
-    go : (v : Verdict) → Books v s p q n r s' → Books v t p q n a t' → Twin r a s' t'
+    go : (v : Verdict) → Books v s pay r s' → Books v t pay a t' → Twin r a s' t'
     go (Ok u) d f = let b = alike_booked s t k d.0 f.0 in twin d.2 d.3 f.2 f.3 refl (record { shapes = b.shapes; spoilt = b.spoilt; held = refl })
     go (Err e) d f = twin d.0 d.1 f.0 f.1 refl k
 
-twin_release : (s t : State) (p q : ℕ) (n : ℤ) (r a : Answer) (s' t' : State) → Alike s t → Does s (Release p q n) r s' → Does t (Release p q n) a t' → Twin r a s' t'
-twin_release s t p q n r a s' t' k d f = twin d.0 d.1 f.0 f.1 (ap (λ (st : Option Claim). reply (Released (matches st p q n))) k.held) (subst (λ (b : Bool). Alike (cond (matches s.standing p q n) (with_standing s None) s) (cond b (with_standing t None) t)) (ap (λ (st : Option Claim). matches st p q n) k.held) (go (matches s.standing p q n)))
+twin_release : (s t : State) (pay : Payment) (r a : Answer) (s' t' : State) → Alike s t → Does s (Release pay) r s' → Does t (Release pay) a t' → Twin r a s' t'
+twin_release s t pay r a s' t' k d f = twin d.0 d.1 f.0 f.1 (ap (λ (st : Option Payment). reply (Released (matches st pay))) k.held) (subst (λ (b : Bool). Alike (cond (matches s.standing pay) (with_standing s None) s) (cond b (with_standing t None) t)) (ap (λ (st : Option Payment). matches st pay) k.held) (go (matches s.standing pay)))
   where
     go : (b : Bool) → Alike (cond b (with_standing s None) s) (cond b (with_standing t None) t)
     go true = alike_held s t k None
@@ -254,10 +251,10 @@ tidy_shape s g ls t = (tidied_keeps s.lines ls (sym (distinct_shape s.lines) ∙
 
 twin_step : (c : Call) (s t : State) (r a : Answer) (s' t' : State) → Good s → Good t → Alike s t → Level s t → Does s c r s' → Does t c a t' → Twin r a s' t'
 twin_step (Open x y u v) s t r a s' t' hs ht k lv d f = twin_plain _ _ s t Done Done (opened s x y u v) (opened t x y u v) r a s' t' (open_same s t k x y u v) k refl (alike_opened s t k x y u v) d f
-twin_step (Pay z p q n) s t r a s' t' hs ht k lv d f = twin_pay s t z p q n r a s' t' hs ht k lv d f
-twin_step (Reserve z p q n) s t r a s' t' hs ht k lv d f = twin_reserve s t z p q n r a s' t' hs ht k lv d f
-twin_step (Book z p q n) s t r a s' t' hs ht k lv d f = twin_book s t z p q n r a s' t' k d f
-twin_step (Release p q n) s t r a s' t' hs ht k lv d f = twin_release s t p q n r a s' t' k d f
+twin_step (Pay z pay) s t r a s' t' hs ht k lv d f = twin_pay s t z pay r a s' t' hs ht k lv d f
+twin_step (Reserve z pay) s t r a s' t' hs ht k lv d f = twin_reserve s t z pay r a s' t' hs ht k lv d f
+twin_step (Book z pay) s t r a s' t' hs ht k lv d f = twin_book s t z pay r a s' t' k d f
+twin_step (Release pay) s t r a s' t' hs ht k lv d f = twin_release s t pay r a s' t' k d f
 twin_step Begin s t r a s' t' hs ht k lv d f = twin_plain _ _ s t Done Done (begun s) (begun t) r a s' t' (begin_same s t k) k refl (alike_begun s t k) d f
 twin_step End s t r a s' t' hs ht k lv d f =
     let b = same_inmost s.groups t.groups k.spoilt in
@@ -317,8 +314,8 @@ net_table_lem ls ks h = same_table (λ m. net m ls) (λ m. net m ks) 0 64 h
 
 twins : (ts us : List Turn) → Run ts → Run us → calls ts ≡ calls us → Twins ts us
 twins [] [] x y h = record { answers = refl; nets = refl; alike = record { shapes = refl; spoilt = refl; held = refl }; tallies = λ m d. refl }
-twins [] (f ∷ us) x y h = let z : ◌≡◌ {A = ℕ} 0 1 = cc in no z
-twins (e ∷ ts) [] x y h = let z : ◌≡◌ {A = ℕ} 0 1 = cc in no z
+twins [] (f ∷ us) x y h = cc
+twins (e ∷ ts) [] x y h = cc
 twins (e ∷ ts) (f ∷ us) x y h =
     let c : e.call ≡ f.call = cc in
     let cs : calls ts ≡ calls us = cc in

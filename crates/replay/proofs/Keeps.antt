@@ -1,41 +1,38 @@
 -- What one call keeps and what it does to nets, groups and trusts, whatever router serves it.
-use Rattle.std.proofs.Common.{◌≡◌, ℕ, suc, ◌<◌, ◌≤◌, Bool, true, false, cond, not, ◌&&◌, eqb, ltb, leb, ◌≢◌, ◌⊎◌, List, [], ◌∷◌, ◌++◌, length, ℤ, pos, ◌+ℤ◌, ◌-ℤ◌, neg_ℤ, is_some, Some, None, Ok, Err, Option, sym, refl, ap, ◌∙◌, subst, ap₂, subst₂, inl, inr, arith}
+use Rattle.std.proofs.Common.{◌≡◌, ℕ, suc, ◌<◌, ◌≤◌, Bool, true, false, cond, not, ◌&&◌, eqb, ltb, ◌≢◌, ◌⊎◌, List, [], ◌∷◌, ◌++◌, length, ℤ, pos, ◌+ℤ◌, ◌-ℤ◌, is_some, Some, None, Ok, Err, Option, sym, refl, ap, ◌∙◌, subst, subst₂, inl, inr, arith}
 use mathlib.Core.Bool.{and_comm}
-use lib.Signed.{le_z}
 use Rattle.std.proofs.lemmas.Int.{ints}
-use Rattle.std.proofs.lemmas.Bool.{and_parts, and_from, ltb-false, ltb-true, lt-ltb, leb-false, not-false, not-true, eqb-true, or_parts, or_from}
+use Rattle.std.proofs.lemmas.Bool.{and_parts, eqb-true, or_parts}
 use Rattle.credit.specs.declared.line.Line.{Line}
+use Rattle.credit.specs.declared.payment.Payment.{Payment}
 use Rattle.credit.specs.declared.refusal.Refusal.{Refusal}
-use Rattle.credit.specs.declared.refusal.Refusal.TheVariants.{NoSuchMember, SameMember, OutOfRange, ReservationStands, PairHasLine, TooManyLines, SavepointOpen, NoSavepoint}
+use Rattle.credit.specs.declared.refusal.Refusal.TheVariants.{ReservationStands, NoSavepoint}
 use Rattle.credit.specs.Refusals.{Verdict, passes}
 use Rattle.credit.specs.Sums.{only, every}
-use Rattle.credit.specs.Net.{share, net, in_trust, bounded}
+use Rattle.credit.specs.Net.{share, net, bounded}
 use Rattle.credit.specs.Rooms.{line_trust, trust}
 use Rattle.credit.specs.Pairs.{joins, joined, distinct}
 use Rattle.credit.specs.Plans.{booked}
 use Rattle.credit.proofs.Sums.{sum_append}
 use Rattle.credit.proofs.Rooms.{ends_bounded}
 use Rattle.credit.proofs.Booked.{bounded_booked}
-use Rattle.routing.specs.Meaning.{not_members, Routes}
-use Rattle.rings.proofs.Rings.{shape, distinct_shape, eqb_sym, tidied_keeps}
+use Rattle.routing.specs.Meaning.{Routes}
+use Rattle.rings.proofs.Rings.{shape, distinct_shape, tidied_keeps}
 use Rattle.calls.specs.declared.call.Call.{Call}
 use Rattle.calls.specs.declared.call.Call.TheVariants.{Open, Pay, Reserve, Book, Release, Begin, End, Abandon, Tidy}
 use Rattle.calls.specs.declared.call.Answer.{Answer}
 use Rattle.calls.specs.declared.call.Answer.TheVariants.{Done, Kept, Undone, Refused}
-use Rattle.ledger.specs.declared.reservation.Claim.{Claim}
 use Rattle.ledger.specs.Debts.{debts, with_debts}
 use Rattle.ledger.specs.Sound.{proper, strained}
 use Rattle.ledger.specs.States.{OpenGroup, State, with_lines, with_groups, with_standing}
 use Rattle.ledger.specs.Checks.{inmost_spoiled, none_open, matches, pay_checks, book_checks, open_checks, begin_checks, close_checks}
-use Rattle.ledger.specs.Calls.{blank, new_line, opened, claim, begun, closed, spoils, spoil_inmost, after_refusal, Paid, Pays, Held, Reserves, Books, Plain, Does}
+use Rattle.ledger.specs.Calls.{blank, new_line, opened, begun, closed, spoils, spoil_inmost, after_refusal, Paid, Pays, Held, Reserves, Books, Plain, Does}
 use Rattle.ledger.proofs.Shapes.{shape_booked, shape_with_debts, with_debts_shape, with_debts_debts, trust_alike, length_shape, room_alike}
 use Rattle.credit.proofs.Tables.{check_passes}
-use Rattle.ledger.proofs.Steps.{pay_checked, Pair, pair, routed_tells, routed_net, unstrained_alike, unstrained_routed, proper_claim}
+use Rattle.ledger.proofs.Opens.{openable, opened_bounds, opened_pairs}
+use Rattle.ledger.proofs.Steps.{pay_checked, routed_tells, routed_net, unstrained_alike, unstrained_routed, proper_checked}
 use Rattle.replay.specs.Runs.{undone, kept, reply}
 use Rattle.replay.specs.History.{Event, pays, begins, keeps, undoes, other, closing, event, trust_by}
-
-no : {A : Type 0} → ◌≡◌ {A = ℕ} 0 1 → A
-no e = absurd (omega arith)
 
 -- ---- what holds of every state
 abbrev pub saves : List OpenGroup → List (List ℤ)
@@ -47,7 +44,7 @@ SavedOk sh [] = Unit {0}
 SavedOk sh (ds ∷ dss) = (every bounded (with_debts sh ds) ≡ true) × SavedOk sh dss
 
 -- a reservation that stands is proper and has its room in every group
-pub record Fitting (st : Option Claim) (ls : List Line) : Type 0 where
+pub record Fitting (st : Option Payment) (ls : List Line) : Type 0 where
   pub ok : proper st ≡ true
   pub room_left : (g : ℕ) → strained st g ls ≡ false
 
@@ -61,16 +58,16 @@ pub record Good (s : State) : Type 0 where
 pub few_lines : (s : State) → Good s → length s.lines ≤ 256
 few_lines s g = omega (arith, g.few, length_shape s.lines)
 
-fit_none : (st : Option Claim) (ls : List Line) → is_some st ≡ false → Fitting st ls
+fit_none : (st : Option Payment) (ls : List Line) → is_some st ≡ false → Fitting st ls
 fit_none None ls e = record { ok = refl; room_left = λ g. refl }
-fit_none (Some c) ls e = let z : ◌≡◌ {A = ℕ} 0 1 = cc in no z
+fit_none (Some c) ls e = cc
 
 -- ---- what an event does
 abbrev pub SameNets : State → State → Type 0
 SameNets s s' = (m : ℕ) → m < 64 → net m s'.lines ≡ net m s.lines
 
 abbrev pub Follows : Event → State → State → Type 0
-Follows (pays p q n) s s' = ((m : ℕ) → m < 64 → net m s'.lines ≡ (net m s.lines -ℤ only (eqb m p) n) +ℤ only (eqb m q) n) × (saves s'.groups ≡ saves s.groups) × (shape s'.lines ≡ shape s.lines)
+Follows (pays pay) s s' = ((m : ℕ) → m < 64 → net m s'.lines ≡ (net m s.lines -ℤ only (eqb m pay.payer) pay.amount) +ℤ only (eqb m pay.payee) pay.amount) × (saves s'.groups ≡ saves s.groups) × (shape s'.lines ≡ shape s.lines)
 Follows begins s s' = (s'.lines ≡ s.lines) × (saves s'.groups ≡ debts s.lines ∷ saves s.groups)
 Follows keeps s s' = (s'.lines ≡ s.lines) × (ds : List ℤ) × (saves s.groups ≡ ds ∷ saves s'.groups)
 Follows undoes s s' = (ds : List ℤ) × (s'.lines ≡ with_debts s.lines ds) × (saves s.groups ≡ ds ∷ saves s'.groups)
@@ -88,7 +85,7 @@ same i j v = v
 stay : (s : State) → Good s → KeptBy other same s s
 stay s g = record { good = g; follows = ((λ m h. refl), refl, inl refl); trusts = λ i j. refl }
 
-stay_held : (s : State) (st : Option Claim) → Good s → Fitting st s.lines → KeptBy other same s (with_standing s st)
+stay_held : (s : State) (st : Option Payment) → Good s → Fitting st s.lines → KeptBy other same s (with_standing s st)
 stay_held s st g f = record { good = record { bounds = g.bounds; few = g.few; pairs = g.pairs; saved = g.saved; fitting = f }; follows = ((λ m h. refl), refl, inl refl); trusts = λ i j. refl }
 
 saves_spoil : (gs : List OpenGroup) → saves (spoil_inmost gs) ≡ saves gs
@@ -107,9 +104,9 @@ stay_spoiled e s g = go (spoils e)
     go false = stay s g
 
 -- a routed payment
-move : (s : State) (p q : ℕ) (n : ℤ) (plan : List ℤ) (st : Option Claim) → Good s → Fitting st (booked s.lines plan) → Routes s.lines p q n blank passes plan → KeptBy (pays p q n) same s (with_standing (with_lines s (booked s.lines plan)) st)
-move s p q n plan st g ft d =
-    let t = routed_tells s.lines p q n blank plan d in
+move : (s : State) (pay : Payment) (plan : List ℤ) (st : Option Payment) → Good s → Fitting st (booked s.lines plan) → Routes s.lines pay blank passes plan → KeptBy (pays pay) same s (with_standing (with_lines s (booked s.lines plan)) st)
+move s pay plan st g ft d =
+    let t = routed_tells s.lines pay blank plan d in
     let sh = shape_booked s.lines plan in
     record {
       good = record {
@@ -119,7 +116,7 @@ move s p q n plan st g ft d =
         saved = subst (λ (v : List Line). SavedOk v (saves s.groups)) (sym sh) g.saved;
         fitting = ft;
       };
-      follows = ((λ m h. routed_net s.lines p q n plan d m), refl, sh);
+      follows = ((λ m h. routed_net s.lines pay plan d m), refl, sh);
       trusts = λ i j. trust_alike (booked s.lines plan) s.lines sh i j;
     }
 
@@ -132,37 +129,37 @@ plain Q (Err e) s a t r s' f k d = subst₂ Q (sym d.0) (sym d.1) (f e)
 abbrev Step : Call → State → Answer → State → Type 0
 Step c s r s' = KeptBy (event c (reply r)) (trust_by c (reply r)) s s'
 
-step_pay : (s : State) (k p q : ℕ) (n : ℤ) (r : Answer) (s' : State) → Good s → Does s (Pay k p q n) r s' → Step (Pay k p q n) s r s'
-step_pay s k p q n r s' g d = go (pay_checks s k p q n) refl d
+step_pay : (s : State) (k : ℕ) (pay : Payment) (r : Answer) (s' : State) → Good s → Does s (Pay k pay) r s' → Step (Pay k pay) s r s'
+step_pay s k pay r s' g d = go (pay_checks s k pay) refl d
   where
-    by : (v : Verdict) (plan : List ℤ) → pay_checks s k p q n ≡ passes → Routes s.lines p q n blank v plan → Paid v plan s r s' → Step (Pay k p q n) s r s'
-    by (Ok u) plan h d t = subst₂ (λ (r : Answer) (v : State). Step (Pay k p q n) s r v) (sym t.0) (sym t.1) (move s p q n plan s.standing g (fit_none s.standing _ (pay_checked s k p q n h).0) d)
-    by (Err e) plan h d t = subst₂ (λ (r : Answer) (v : State). Step (Pay k p q n) s r v) (sym t.0) (sym t.1) (stay_spoiled e s g)
+    by : (v : Verdict) (plan : List ℤ) → pay_checks s k pay ≡ passes → Routes s.lines pay blank v plan → Paid v plan s r s' → Step (Pay k pay) s r s'
+    by (Ok u) plan h d t = subst₂ (λ (r : Answer) (v : State). Step (Pay k pay) s r v) (sym t.0) (sym t.1) (move s pay plan s.standing g (fit_none s.standing _ (pay_checked s k pay h).0) d)
+    by (Err e) plan h d t = subst₂ (λ (r : Answer) (v : State). Step (Pay k pay) s r v) (sym t.0) (sym t.1) (stay_spoiled e s g)
 
-    go : (v : Verdict) → pay_checks s k p q n ≡ v → Pays v s p q n r s' → Step (Pay k p q n) s r s'
+    go : (v : Verdict) → pay_checks s k pay ≡ v → Pays v s pay r s' → Step (Pay k pay) s r s'
     go (Ok u) h d = by d.0 d.1 h d.2 d.3
-    go (Err e) h d = subst₂ (λ (r : Answer) (v : State). Step (Pay k p q n) s r v) (sym d.0) (sym d.1) (stay_spoiled e s g)
+    go (Err e) h d = subst₂ (λ (r : Answer) (v : State). Step (Pay k pay) s r v) (sym d.0) (sym d.1) (stay_spoiled e s g)
 
-step_reserve : (s : State) (k p q : ℕ) (n : ℤ) (r : Answer) (s' : State) → Good s → Does s (Reserve k p q n) r s' → Step (Reserve k p q n) s r s'
-step_reserve s k p q n r s' g d = go (pay_checks s k p q n) refl d
+step_reserve : (s : State) (k : ℕ) (pay : Payment) (r : Answer) (s' : State) → Good s → Does s (Reserve k pay) r s' → Step (Reserve k pay) s r s'
+step_reserve s k pay r s' g d = go (pay_checks s k pay) refl d
   where
-    by : (v : Verdict) (plan : List ℤ) → pay_checks s k p q n ≡ passes → Routes s.lines p q n blank v plan → Held v p q n s r s' → Step (Reserve k p q n) s r s'
-    by (Ok u) plan h x t = subst₂ (λ (r : Answer) (v : State). Step (Reserve k p q n) s r v) (sym t.0) (sym t.1) (stay_held s (Some (claim p q n)) g (record { ok = proper_claim p q n (pay_checked s k p q n h).1; room_left = unstrained_routed s.lines p q n plan g.bounds x }))
-    by (Err e) plan h x t = subst₂ (λ (r : Answer) (v : State). Step (Reserve k p q n) s r v) (sym t.0) (sym t.1) (stay s g)
+    by : (v : Verdict) (plan : List ℤ) → pay_checks s k pay ≡ passes → Routes s.lines pay blank v plan → Held v pay s r s' → Step (Reserve k pay) s r s'
+    by (Ok u) plan h x t = subst₂ (λ (r : Answer) (v : State). Step (Reserve k pay) s r v) (sym t.0) (sym t.1) (stay_held s (Some pay) g (record { ok = proper_checked pay (pay_checked s k pay h).1; room_left = unstrained_routed s.lines pay plan g.bounds x }))
+    by (Err e) plan h x t = subst₂ (λ (r : Answer) (v : State). Step (Reserve k pay) s r v) (sym t.0) (sym t.1) (stay s g)
 
-    go : (v : Verdict) → pay_checks s k p q n ≡ v → Reserves v s p q n r s' → Step (Reserve k p q n) s r s'
+    go : (v : Verdict) → pay_checks s k pay ≡ v → Reserves v s pay r s' → Step (Reserve k pay) s r s'
     go (Ok u) h d = by d.0 d.1 h d.2 d.3
-    go (Err e) h d = subst₂ (λ (r : Answer) (v : State). Step (Reserve k p q n) s r v) (sym d.0) (sym d.1) (stay s g)
+    go (Err e) h d = subst₂ (λ (r : Answer) (v : State). Step (Reserve k pay) s r v) (sym d.0) (sym d.1) (stay s g)
 
-step_book : (s : State) (k p q : ℕ) (n : ℤ) (r : Answer) (s' : State) → Good s → Does s (Book k p q n) r s' → Step (Book k p q n) s r s'
-step_book s k p q n r s' g d = go (book_checks s k p q n) d
+step_book : (s : State) (k : ℕ) (pay : Payment) (r : Answer) (s' : State) → Good s → Does s (Book k pay) r s' → Step (Book k pay) s r s'
+step_book s k pay r s' g d = go (book_checks s k pay) d
   where
-    go : (v : Verdict) → Books v s p q n r s' → Step (Book k p q n) s r s'
-    go (Ok u) d = subst₂ (λ (r : Answer) (v : State). Step (Book k p q n) s r v) (sym d.2) (sym d.3) (move s p q n d.0 None g (fit_none None _ refl) d.1)
-    go (Err e) d = subst₂ (λ (r : Answer) (v : State). Step (Book k p q n) s r v) (sym d.0) (sym d.1) (stay s g)
+    go : (v : Verdict) → Books v s pay r s' → Step (Book k pay) s r s'
+    go (Ok u) d = subst₂ (λ (r : Answer) (v : State). Step (Book k pay) s r v) (sym d.2) (sym d.3) (move s pay d.0 None g (fit_none None _ refl) d.1)
+    go (Err e) d = subst₂ (λ (r : Answer) (v : State). Step (Book k pay) s r v) (sym d.0) (sym d.1) (stay s g)
 
-step_release : (s : State) (p q : ℕ) (n : ℤ) (r : Answer) (s' : State) → Good s → Does s (Release p q n) r s' → Step (Release p q n) s r s'
-step_release s p q n r s' g d = subst (λ (v : State). Step (Release p q n) s r v) (sym d.1) (go (matches s.standing p q n))
+step_release : (s : State) (pay : Payment) (r : Answer) (s' : State) → Good s → Does s (Release pay) r s' → Step (Release pay) s r s'
+step_release s pay r s' g d = subst (λ (v : State). Step (Release pay) s r v) (sym d.1) (go (matches s.standing pay))
   where
     go : (b : Bool) → KeptBy other same s (cond b (with_standing s None) s)
     go true = stay_held s None g (fit_none None _ refl)
@@ -180,13 +177,13 @@ step_begin s r s' g d =
 -- the inmost group closed
 none_of : (gs : List OpenGroup) → none_open gs ≡ true → saves gs ≡ []
 none_of [] h = refl
-none_of (g ∷ gs) h = let z : ◌≡◌ {A = ℕ} 0 1 = cc in no z
+none_of (g ∷ gs) h = cc
 
 close : (s : State) (undo : Bool) → Good s → is_some s.standing ≡ false → none_open s.groups ≡ false → KeptBy (closing (cond undo undone kept)) same s (closed s s.groups (not undo))
 close s undo g u h = go s.groups refl h undo
   where
     go : (gs : List OpenGroup) → s.groups ≡ gs → none_open gs ≡ false → (b : Bool) → KeptBy (closing (cond b undone kept)) same s (closed s gs (not b))
-    go [] e h b = let z : ◌≡◌ {A = ℕ} 0 1 = cc in no z
+    go [] e h b = cc
     go (x ∷ gs) e h true =
         let sv : SavedOk (shape s.lines) (x.saved ∷ saves gs) = subst (λ (v : List OpenGroup). SavedOk (shape s.lines) (saves v)) e g.saved in
         let sh = shape_with_debts s.lines x.saved in
@@ -242,32 +239,12 @@ step_tidy s r s' g d =
     })
 
 -- ---- open
-every_push : (ls : List Line) (l : Line) → every bounded ls ≡ true → bounded l ≡ true → every bounded (ls ++ (l ∷ [])) ≡ true
-every_push [] l e b = and_from (bounded l) true b refl
-every_push (x ∷ ls) l e b =
-    let h = and_parts (bounded x) (every bounded ls) e in
-    and_from (bounded x) (every bounded (ls ++ (l ∷ []))) h.0 (every_push ls l h.1 b)
-
 length_push : (ls : List Line) (l : Line) → length (shape (ls ++ (l ∷ []))) ≡ suc (length (shape ls))
 length_push [] l = refl
 length_push (x ∷ ls) l = ap suc (length_push ls l)
 
-new_bounded : (x y : ℕ) (t u : ℤ) → Pair x y → in_trust t ≡ true → in_trust u ≡ true → bounded (new_line x y t u) ≡ true
-new_bounded x y t u p ht hu = go (ltb x y) refl
-  where
-    line : (a b : ℕ) (v w : ℤ) → a < b → b < 64 → in_trust v ≡ true → in_trust w ≡ true → bounded (record { a = a; b = b; trust_a = v; trust_b = w; debt = pos 0 }) ≡ true
-    line a b v w ab b64 hv hw =
-        let k = and_parts (le_z (pos 0) v) (le_z v (pos 1000000)) hv in
-        let m = and_parts (le_z (pos 0) w) (le_z w (pos 1000000)) hw in
-        and_from _ _ (and_from _ _ (lt-ltb a b ab) (and_from _ _ (lt-ltb b 64 b64) (and_from _ _ hv hw)))
-        (and_from (le_z (neg_ℤ w) (pos 0)) (le_z (pos 0) v) (sym (omega (arith, ints, m))) k.0)
-
-    go : (b : Bool) → ltb x y ≡ b → bounded (cond b (record { a = x; b = y; trust_a = t; trust_b = u; debt = pos 0 }) (record { a = y; b = x; trust_a = u; trust_b = t; debt = pos 0 })) ≡ true
-    go true e = line x y t u (ltb-true x y e) p.payee ht hu
-    go false e = line y x u t (omega (arith, ltb-false x y e, p.apart)) p.payer hu ht
-
 only_none : (s t : Bool) (v : ℤ) → (s && t) ≡ false → only s (only t v) ≡ pos 0
-only_none true true v e = let z : ◌≡◌ {A = ℕ} 0 1 = cc in no z
+only_none true true v e = cc
 only_none true false v e = refl
 only_none false t v e = refl
 
@@ -287,7 +264,7 @@ unjoined x y (l ∷ ls) e =
 
 -- the trusts of a new line
 pair_trust : (s s' t t' : Bool) (v w : ℤ) → (s && t) ≡ false → only s (only s' v) +ℤ only t (only t' w) ≡ cond (s && s') v (cond (t && t') w (pos 0))
-pair_trust true s' true t' v w e = let z : ◌≡◌ {A = ℕ} 0 1 = cc in no z
+pair_trust true s' true t' v w e = cc
 pair_trust true true false t' v w e = omega (arith, ints)
 pair_trust true false false t' v w e = refl
 pair_trust false s' true true v w e = omega (arith, ints)
@@ -340,66 +317,31 @@ open_net ls x y t u m = omega (arith, ints, sum_append (share m) ls (new_line x 
     go true = none (eqb m x) (eqb m y)
     go false = none (eqb m y) (eqb m x)
 
-joined_push : (x y : ℕ) (ls : List Line) (n : Line) → joined x y ls ≡ false → joins x y n ≡ false → joined x y (ls ++ (n ∷ [])) ≡ false
-joined_push x y [] n e j = or_from (joins x y n) false j refl
-joined_push x y (l ∷ ls) n e j =
-    let h = or_parts (joins x y l) (joined x y ls) e in
-    or_from (joins x y l) (joined x y (ls ++ (n ∷ []))) h.0 (joined_push x y ls n h.1 j)
-
-joins_new : (x y : ℕ) (t u : ℤ) (l : Line) → joins x y l ≡ false → joins l.a l.b (new_line x y t u) ≡ false
-joins_new x y t u l e = go (ltb x y)
-  where
-    parts : ((eqb l.a x && eqb l.b y) ≡ false) × ((eqb l.b x && eqb l.a y) ≡ false)
-    parts =
-        let h = or_parts (eqb x l.a && eqb y l.b) (eqb x l.b && eqb y l.a) e in
-        (ap₂ (λ (v w : Bool). v && w) (eqb_sym l.a x) (eqb_sym l.b y) ∙ h.0, ap₂ (λ (v w : Bool). v && w) (eqb_sym l.b x) (eqb_sym l.a y) ∙ h.1)
-
-    go : (b : Bool) → joins l.a l.b (cond b (record { a = x; b = y; trust_a = t; trust_b = u; debt = pos 0 }) (record { a = y; b = x; trust_a = u; trust_b = t; debt = pos 0 })) ≡ false
-    go true = or_from (eqb l.a x && eqb l.b y) (eqb l.a y && eqb l.b x) parts.0 (flip (eqb l.b x) (eqb l.a y) parts.1)
-    go false = or_from (eqb l.a y && eqb l.b x) (eqb l.a x && eqb l.b y) (flip (eqb l.b x) (eqb l.a y) parts.1) parts.0
-
-distinct_push : (ls : List Line) (x y : ℕ) (t u : ℤ) → distinct ls ≡ true → joined x y ls ≡ false → distinct (ls ++ (new_line x y t u ∷ [])) ≡ true
-distinct_push [] x y t u d j = refl
-distinct_push (l ∷ ls) x y t u d j =
-    let h = and_parts (not (joined l.a l.b ls)) (distinct ls) d in
-    let k = or_parts (joins x y l) (joined x y ls) j in
-    and_from (not (joined l.a l.b (ls ++ (new_line x y t u ∷ [])))) (distinct (ls ++ (new_line x y t u ∷ [])))
-    (ap not (joined_push l.a l.b ls (new_line x y t u) (not-true (joined l.a l.b ls) h.0) (joins_new x y t u l k.0)))
-    (distinct_push ls x y t u h.1 k.1)
-
 step_open : (s : State) (x y : ℕ) (t u : ℤ) (r : Answer) (s' : State) → Good s → Does s (Open x y t u) r s' → Step (Open x y t u) s r s'
 step_open s x y t u r s' g d = plain (λ r v. Step (Open x y t u) s r v) (open_checks s x y t u) s Done (opened s x y t u) r s' (λ e. stay s g) accepted d
   where
     accepted : open_checks s x y t u ≡ passes → Step (Open x y t u) s Done (opened s x y t u)
     accepted h =
-        let c8 = check_passes (is_some s.standing) ReservationStands _ h in
-        let c12 = check_passes (not (none_open s.groups)) SavepointOpen _ c8.1 in
-        let c5 = check_passes (not_members x y) NoSuchMember _ c12.1 in
-        let c6 = check_passes (eqb x y) SameMember _ c5.1 in
-        let c7 = check_passes (not (in_trust t && in_trust u)) OutOfRange _ c6.1 in
-        let c10 = check_passes (joined x y s.lines) PairHasLine _ c7.1 in
-        let c11 = check_passes (leb 256 (length s.lines)) TooManyLines _ c10.1 in
-        let p = pair x y c5.0 c6.0 in
-        let tu = and_parts (in_trust t) (in_trust u) (not-false (in_trust t && in_trust u) c7.0) in
-        let sv = none_of s.groups (not-false (none_open s.groups) c12.0) in
+        let o = openable s x y t u h in
+        let sv = none_of s.groups o.none in
         record {
           good = record {
-            bounds = every_push s.lines (new_line x y t u) g.bounds (new_bounded x y t u p tu.0 tu.1);
-            few = omega (arith, length_push s.lines (new_line x y t u), length_shape s.lines, leb-false 256 (length s.lines) c11.0);
-            pairs = distinct_shape (s.lines ++ (new_line x y t u ∷ [])) ∙ distinct_push s.lines x y t u (sym (distinct_shape s.lines) ∙ g.pairs) c10.0;
+            bounds = opened_bounds s x y t u o g.bounds;
+            few = omega (arith, length_push s.lines (new_line x y t u), length_shape s.lines, o.few);
+            pairs = distinct_shape (s.lines ++ (new_line x y t u ∷ [])) ∙ opened_pairs s x y t u o (sym (distinct_shape s.lines) ∙ g.pairs);
             saved = subst (λ (v : List (List ℤ)). SavedOk (shape (s.lines ++ (new_line x y t u ∷ []))) v) (sym sv) tt;
-            fitting = fit_none s.standing _ c8.0;
+            fitting = fit_none s.standing _ o.vacant;
           };
           follows = ((λ m h. open_net s.lines x y t u m), refl, inr sv);
-          trusts = open_trust s.lines x y t u p.apart c10.0;
+          trusts = open_trust s.lines x y t u o.apart o.unjoined;
         }
 
 pub step_keeps : (s : State) (c : Call) (r : Answer) (s' : State) → Good s → Does s c r s' → KeptBy (event c (reply r)) (trust_by c (reply r)) s s'
 step_keeps s (Open x y t u) r s' g d = step_open s x y t u r s' g d
-step_keeps s (Pay k p q n) r s' g d = step_pay s k p q n r s' g d
-step_keeps s (Reserve k p q n) r s' g d = step_reserve s k p q n r s' g d
-step_keeps s (Book k p q n) r s' g d = step_book s k p q n r s' g d
-step_keeps s (Release p q n) r s' g d = step_release s p q n r s' g d
+step_keeps s (Pay k pay) r s' g d = step_pay s k pay r s' g d
+step_keeps s (Reserve k pay) r s' g d = step_reserve s k pay r s' g d
+step_keeps s (Book k pay) r s' g d = step_book s k pay r s' g d
+step_keeps s (Release pay) r s' g d = step_release s pay r s' g d
 step_keeps s Begin r s' g d = step_begin s r s' g d
 step_keeps s End r s' g d = step_end s r s' g d
 step_keeps s Abandon r s' g d = step_abandon s r s' g d

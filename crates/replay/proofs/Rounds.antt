@@ -11,9 +11,6 @@ use Rattle.ledger.specs.States.{State}
 use Rattle.ledger.specs.Calls.{Does}
 use Rattle.replay.specs.Sums.{owing, round}
 
-no : {A : Type 0} → ◌≡◌ {A = ℕ} 0 1 → A
-no e = absurd (omega arith)
-
 -- 1 owes 2 u, 2 owes 3 v, 3 owes 1 w
 abbrev three : ℤ → ℤ → ℤ → List Line
 three u v w = owing 1 2 (neg_ℤ u) ∷ owing 2 3 (neg_ℤ v) ∷ owing 1 3 w ∷ []
@@ -150,7 +147,7 @@ one_ring = record { three = omega arith; apart = refl; owing = each; least = (2,
 
     last : (x y : ℕ) → ((eqb 3 x && eqb 1 y) ≡ true) ⊎ (false ≡ true) → pos 5 ≤ℤ owes x y before
     last x y (inl e) = at x y 3 1 e (omega (arith, ints))
-    last x y (inr e) = let z : ◌≡◌ {A = ℕ} 0 1 = cc in no z
+    last x y (inr e) = cc
 
     then : (x y : ℕ) → ((eqb 2 x && eqb 3 y) ≡ true) ⊎ (((eqb 3 x && eqb 1 y) || false) ≡ true) → pos 5 ≤ℤ owes x y before
     then x y (inl e) = at x y 2 3 e (omega (arith, ints))

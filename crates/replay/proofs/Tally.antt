@@ -1,6 +1,7 @@
 -- Along a run: what holds of the states, the trusts that were set, and the tally at every depth.
 use Rattle.std.proofs.Common.{◌≡◌, ℕ, zero, suc, ◌<◌, eqb, ◌⊎◌, List, [], ◌∷◌, ℤ, ◌+ℤ◌, ◌-ℤ◌, sym, refl, ap, ◌∙◌, subst, subst₂, inl, inr, arith}
 use Rattle.credit.specs.declared.line.Line.{Line}
+use Rattle.credit.specs.declared.payment.Payment.{Payment}
 use Rattle.credit.specs.Sums.{only}
 use Rattle.credit.specs.Net.{net}
 use Rattle.credit.specs.Rooms.{trust}
@@ -26,9 +27,9 @@ pub record Counted (f : ℕ → ℕ → ℤ) (s : State) : Type 0 where
 abbrev pub next : Event → (ℕ → ℕ → ℤ) → ℕ → ℕ → ℤ
 next v f m d = tally_by v m d (f m)
 
-levels_pays : (p q : ℕ) (n : ℤ) (sh : List Line) (dss : List (List ℤ)) (f : ℕ → ℕ → ℤ) (d : ℕ) → Levels sh dss f d → Levels sh dss (next (pays p q n) f) d
-levels_pays p q n sh [] f d h = tt
-levels_pays p q n sh (ds ∷ dss) f d h = (h.0, levels_pays p q n sh dss f (suc d) h.1)
+levels_pays : (pay : Payment) (sh : List Line) (dss : List (List ℤ)) (f : ℕ → ℕ → ℤ) (d : ℕ) → Levels sh dss f d → Levels sh dss (next (pays pay) f) d
+levels_pays pay sh [] f d h = tt
+levels_pays pay sh (ds ∷ dss) f d h = (h.0, levels_pays pay sh dss f (suc d) h.1)
 
 levels_begins : (sh : List Line) (dss : List (List ℤ)) (f : ℕ → ℕ → ℤ) (d : ℕ) → Levels sh dss f d → Levels sh dss (next begins f) (suc d)
 levels_begins sh [] f d h = tt
@@ -47,9 +48,9 @@ levels_other sh [] f d h = tt
 levels_other sh (ds ∷ dss) f d h = (h.0, levels_other sh dss f (suc d) h.1)
 
 pub counted : (v : Event) (f : ℕ → ℕ → ℤ) (s s' : State) → Follows v s s' → Counted f s → Counted (next v f) s'
-counted (pays p q n) f s s' w c = record {
-  now = λ m h. w.0 m h ∙ ap (λ (x : ℤ). (x -ℤ only (eqb m p) n) +ℤ only (eqb m q) n) (c.now m h);
-  back = subst₂ (λ (sh : List Line) (dss : List (List ℤ)). Levels sh dss (next (pays p q n) f) zero) (sym w.2) (sym w.1) (levels_pays p q n (shape s.lines) (saves s.groups) f zero c.back);
+counted (pays pay) f s s' w c = record {
+  now = λ m h. w.0 m h ∙ ap (λ (x : ℤ). (x -ℤ only (eqb m pay.payer) pay.amount) +ℤ only (eqb m pay.payee) pay.amount) (c.now m h);
+  back = subst₂ (λ (sh : List Line) (dss : List (List ℤ)). Levels sh dss (next (pays pay) f) zero) (sym w.2) (sym w.1) (levels_pays pay (shape s.lines) (saves s.groups) f zero c.back);
 }
 counted begins f s s' w c = record {
   now = λ m h. ap (net m) w.0 ∙ c.now m h;

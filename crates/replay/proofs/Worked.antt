@@ -1,7 +1,8 @@
 -- The worked sums.
-use Rattle.std.proofs.Common.{◌≡◌, ℕ, zero, suc, ◌<◌, ◌≤◌, Bool, true, false, eqb, List, [], ◌∷◌, length, replicate, ℤ, pos, ◌-ℤ◌, neg_ℤ, ◌≤ℤ◌, ◌<ℤ◌, None, Ok, Err, refl, ap, ◌∙◌, subst, ap₂, arith}
+use Rattle.std.proofs.Common.{◌≡◌, ℕ, zero, suc, ◌≤◌, Bool, true, false, eqb, List, [], ◌∷◌, length, replicate, ℤ, pos, ◌-ℤ◌, neg_ℤ, ◌≤ℤ◌, ◌<ℤ◌, None, Ok, Err, refl, ap, ◌∙◌, subst, ap₂, arith}
 use Rattle.std.proofs.lemmas.Int.{ints}
 use Rattle.members.specs.Groups.{inside}
+use Rattle.credit.specs.declared.payment.Payment.{Payment}
 use Rattle.credit.specs.declared.refusal.Refusal.{Refusal}
 use Rattle.credit.specs.Refusals.{Verdict, passes, number_of}
 use Rattle.credit.specs.Sums.{only, every}
@@ -18,13 +19,10 @@ use Rattle.ledger.specs.States.{State, fresh, with_lines}
 use Rattle.ledger.specs.Checks.{pay_checks, begin_checks}
 use Rattle.ledger.specs.Calls.{blank, begun, Paid, Pays, Plain, Does}
 use Rattle.ledger.proofs.Shapes.{booked_blank, length_blank}
-use Rattle.ledger.proofs.Steps.{pay_checked, routed_tells, refused_tells, routed_fits}
+use Rattle.ledger.proofs.Steps.{pay_checked, pair, routed_tells, refused_tells, routed_fits}
 use Rattle.replay.specs.Runs.{Turn, latest, Run, calls, Reply, done, refused, reply, replies}
-use Rattle.replay.specs.Sums.{Gives, network, pay, Sums}
+use Rattle.replay.specs.Sums.{Gives, network, due, pay, Sums}
 use Rattle.replay.proofs.Rounds.{tidied}
-
-no : {A : Type 0} → ◌≡◌ {A = ℕ} 0 1 → A
-no e = absurd (omega arith)
 
 -- ---- runs over given calls
 -- every run over these calls ends in a state of this kind, with these answers
@@ -33,11 +31,11 @@ EndsIn cs P rs = (ts : List Turn) → Run ts → calls ts ≡ cs → P (latest t
 
 nothing : EndsIn [] (λ s. s ≡ fresh) []
 nothing [] x h = (refl, refl)
-nothing (t ∷ ts) x h = let z : ◌≡◌ {A = ℕ} 0 1 = cc in no z
+nothing (t ∷ ts) x h = cc
 
 -- one call more
 further : (c : Call) (cs : List Call) (P Q : State → Type 0) (r : Reply) (rs : List Reply) → ((s : State) (a : Answer) (s' : State) → P s → Does s c a s' → Q s' × (reply a ≡ r)) → EndsIn cs P rs → EndsIn (c ∷ cs) Q (r ∷ rs)
-further c cs P Q r rs f k [] x h = let z : ◌≡◌ {A = ℕ} 0 1 = cc in no z
+further c cs P Q r rs f k [] x h = cc
 further c cs P Q r rs f k (t ∷ ts) x h =
     let e : t.call ≡ c = cc in
     let es : calls ts ≡ cs = cc in
@@ -51,22 +49,24 @@ steadily : (c : Call) (cs : List Call) (s t : State) (r : Reply) (rs : List Repl
 steadily c cs s t r rs f k = further c cs (λ v. v ≡ s) (λ v. v ≡ t) r rs (λ v a s' e d. f a s' (subst (λ (w : State). Does w c a s') e d)) k
 
 -- ---- payments
-pay_fits : (s : State) (p q : ℕ) (n : ℤ) (plan : List ℤ) (a : Answer) (s' : State) → every bounded s.lines ≡ true → length s.lines ≤ 256 → pay_checks s 256 p q n ≡ passes → p < 64 → q < 64 → Flow s.lines p q n blank plan → fits s.lines plan ≡ true → Does s (Pay 256 p q n) a s' → (reply a ≡ done) × (x : List ℤ) × Routed s.lines p q n blank x × (s' ≡ with_lines s (booked s.lines x))
-pay_fits s p q n plan a s' b few h hp hq f t d = let e = subst (λ (v : Verdict). Pays v s p q n a s') h d in go e.0 e.1 e.2 e.3
+pay_fits : (s : State) (due : Payment) (plan : List ℤ) (a : Answer) (s' : State) → every bounded s.lines ≡ true → length s.lines ≤ 256 → pay_checks s 256 due ≡ passes → Flow s.lines due.payer due.payee due.amount blank plan → fits s.lines plan ≡ true → Does s (Pay 256 due) a s' → (reply a ≡ done) × (x : List ℤ) × Routed s.lines due blank x × (s' ≡ with_lines s (booked s.lines x))
+pay_fits s due plan a s' b few h f t d = let e = subst (λ (v : Verdict). Pays v s due a s') h d in go e.0 e.1 e.2 e.3
   where
-    go : (v : Verdict) (x : List ℤ) → Routes s.lines p q n blank v x → Paid v x s a s' → (reply a ≡ done) × (x : List ℤ) × Routed s.lines p q n blank x × (s' ≡ with_lines s (booked s.lines x))
-    go (Ok u) x y z = (ap reply z.0, x, (routed_tells s.lines p q n blank x y).1, z.1)
+    go : (v : Verdict) (x : List ℤ) → Routes s.lines due blank v x → Paid v x s a s' → (reply a ≡ done) × (x : List ℤ) × Routed s.lines due blank x × (s' ≡ with_lines s (booked s.lines x))
+    go (Ok u) x y z = (ap reply z.0, x, (routed_tells s.lines due blank x y).1, z.1)
     go (Err e) x y z =
-        let k = refused_tells s.lines p q n e x b few (pay_checked s 256 p q n h).1 y in
-        let w : n ≤ℤ room k.group.bits (booked s.lines blank) = weak_duality s.lines p q n blank plan (ends_bounded s.lines b) hp hq f t k.group.bits k.payer k.payee in
+        let c = (pay_checked s 256 due h).1 in
+        let ends = pair due c in
+        let k = refused_tells s.lines due e x b few c y in
+        let w : due.amount ≤ℤ room k.group.bits (booked s.lines blank) = weak_duality s.lines due.payer due.payee due.amount blank plan (ends_bounded s.lines b) ends.payer ends.payee f t k.group.bits k.payer k.payee in
         absurd (omega (arith, ints, w, ap (room k.group.bits) (booked_blank s.lines), k.less))
 
-pay_lacks : (s : State) (p q : ℕ) (n : ℤ) (g : ℕ) (a : Answer) (s' : State) → every bounded s.lines ≡ true → length s.lines ≤ 256 → pay_checks s 256 p q n ≡ passes → inside g p ≡ true → inside g q ≡ false → room g s.lines <ℤ n → Does s (Pay 256 p q n) a s' → reply a ≡ refused 16
-pay_lacks s p q n g a s' b few h ip iq less d = let e = subst (λ (v : Verdict). Pays v s p q n a s') h d in go e.0 e.1 e.2 e.3
+pay_lacks : (s : State) (due : Payment) (g : ℕ) (a : Answer) (s' : State) → every bounded s.lines ≡ true → length s.lines ≤ 256 → pay_checks s 256 due ≡ passes → inside g due.payer ≡ true → inside g due.payee ≡ false → room g s.lines <ℤ due.amount → Does s (Pay 256 due) a s' → reply a ≡ refused 16
+pay_lacks s due g a s' b few h ip iq less d = let e = subst (λ (v : Verdict). Pays v s due a s') h d in go e.0 e.1 e.2 e.3
   where
-    go : (v : Verdict) (x : List ℤ) → Routes s.lines p q n blank v x → Paid v x s a s' → reply a ≡ refused 16
-    go (Ok u) x y z = absurd (omega (arith, ints, routed_fits s.lines p q n x b y g ip iq, less))
-    go (Err e) x y z = ap reply z.0 ∙ ap (λ (r : Refusal). refused (number_of r)) (refused_tells s.lines p q n e x b few (pay_checked s 256 p q n h).1 y).named
+    go : (v : Verdict) (x : List ℤ) → Routes s.lines due blank v x → Paid v x s a s' → reply a ≡ refused 16
+    go (Ok u) x y z = absurd (omega (arith, ints, routed_fits s.lines due x b y g ip iq, less))
+    go (Err e) x y z = ap reply z.0 ∙ ap (λ (r : Refusal). refused (number_of r)) (refused_tells s.lines due e x b few (pay_checked s 256 due h).1 y).named
 
 -- ---- the network
 -- its two lines with debts d and e
@@ -101,7 +101,7 @@ back : (d e x : ℤ) → Flow (net_with d e).lines 3 1 x blank (neg_ℤ x ∷ ne
 back d e x m = omega (arith, ints, sent_blank d e m, only_less (eqb m 1) x, only_less (eqb m 2) x, only_less (eqb m 3) x)
 
 -- and no other is
-forced : (d e x : ℤ) (plan : List ℤ) → Routed (net_with d e).lines 1 3 x blank plan → booked (net_with d e).lines plan ≡ (net_with (d -ℤ x) (e -ℤ x)).lines
+forced : (d e x : ℤ) (plan : List ℤ) → Routed (net_with d e).lines (record { payer = 1; payee = 3; amount = x }) blank plan → booked (net_with d e).lines plan ≡ (net_with (d -ℤ x) (e -ℤ x)).lines
 forced d e x [] r = absurd (omega (arith, r.long, length_blank))
 forced d e x (y ∷ []) r = absurd (omega (arith, r.long, length_blank))
 forced d e x (y ∷ (z ∷ plan)) r =
@@ -114,14 +114,14 @@ after30 = steadily (pay 1 3 30) network (net_with (pos 0) (pos 0)) (net_with (ne
   where
     by : (a : Answer) (s' : State) → Does (net_with (pos 0) (pos 0)) (pay 1 3 30) a s' → (s' ≡ net_with (neg_ℤ (pos 30)) (neg_ℤ (pos 30))) × (reply a ≡ done)
     by a s' d =
-        let f = pay_fits (net_with (pos 0) (pos 0)) 1 3 (pos 30) (pos 30 ∷ pos 30 ∷ []) a s' refl (omega arith) refl (omega arith) (omega arith) (onward (pos 0) (pos 0) (pos 30)) refl d in
+        let f = pay_fits (net_with (pos 0) (pos 0)) (due 1 3 30) (pos 30 ∷ pos 30 ∷ []) a s' refl (omega arith) refl (onward (pos 0) (pos 0) (pos 30)) refl d in
         (f.3 ∙ ap (with_lines (net_with (pos 0) (pos 0))) (forced (pos 0) (pos 0) (pos 30) f.1 f.2), f.0)
 
 -- a payment that lacks room after a state
-lacking : (cs : List Call) (d e : ℤ) (rs : List Reply) (p q n g : ℕ) → every bounded (net_with d e).lines ≡ true → pay_checks (net_with d e) 256 p q (pos n) ≡ passes → inside g p ≡ true → inside g q ≡ false → room g (net_with d e).lines <ℤ pos n → EndsIn cs (λ s. s ≡ net_with d e) rs → Gives (pay p q n ∷ cs) (refused 16 ∷ rs)
+lacking : (cs : List Call) (d e : ℤ) (rs : List Reply) (p q n g : ℕ) → every bounded (net_with d e).lines ≡ true → pay_checks (net_with d e) 256 (due p q n) ≡ passes → inside g p ≡ true → inside g q ≡ false → room g (net_with d e).lines <ℤ pos n → EndsIn cs (λ s. s ≡ net_with d e) rs → Gives (pay p q n ∷ cs) (refused 16 ∷ rs)
 lacking cs d e rs p q n g b h ip iq less k ts x c =
     (further (pay p q n) cs (λ s. s ≡ net_with d e) (λ s. Unit {0}) (refused 16) rs
-    (λ s a s' i t. (tt, pay_lacks (net_with d e) p q (pos n) g a s' b (omega arith) h ip iq less (subst (λ (w : State). Does w (pay p q n) a s') i t))) k ts x c).1
+    (λ s a s' i t. (tt, pay_lacks (net_with d e) (due p q n) g a s' b (omega arith) h ip iq less (subst (λ (w : State). Does w (pay p q n) a s') i t))) k ts x c).1
 
 -- a payment that is refused before a router is asked
 refusing : (c : Call) (cs : List Call) (s : State) (r : Reply) (rs : List Reply) → ((a : Answer) (s' : State) → Does s c a s' → reply a ≡ r) → EndsIn cs (λ v. v ≡ s) rs → Gives (c ∷ cs) (r ∷ rs)
@@ -134,7 +134,7 @@ short = lacking network (pos 0) (pos 0) (done ∷ done ∷ []) 1 3 31 2 refl ref
 
 back50 : Gives (pay 3 1 50 ∷ pay 1 3 30 ∷ network) (done ∷ done ∷ done ∷ done ∷ [])
 back50 = refusing (pay 3 1 50) (pay 1 3 30 ∷ network) (net_with (neg_ℤ (pos 30)) (neg_ℤ (pos 30))) done (done ∷ done ∷ done ∷ [])
-    (λ a s' d. (pay_fits (net_with (neg_ℤ (pos 30)) (neg_ℤ (pos 30))) 3 1 (pos 50) (neg_ℤ (pos 50) ∷ neg_ℤ (pos 50) ∷ []) a s' refl (omega arith) refl (omega arith) (omega arith) (back (neg_ℤ (pos 30)) (neg_ℤ (pos 30)) (pos 50)) refl d).0) after30
+    (λ a s' d. (pay_fits (net_with (neg_ℤ (pos 30)) (neg_ℤ (pos 30))) (due 3 1 50) (neg_ℤ (pos 50) ∷ neg_ℤ (pos 50) ∷ []) a s' refl (omega arith) refl (back (neg_ℤ (pos 30)) (neg_ℤ (pos 30)) (pos 50)) refl d).0) after30
 
 over : Gives (pay 3 1 51 ∷ pay 1 3 30 ∷ network) (refused 16 ∷ done ∷ done ∷ done ∷ [])
 unfolding inside

@@ -1,5 +1,6 @@
 -- What the calls and answers of a run tell by themselves: the trusts that were set, and what payments brought and cost.
 use Rattle.std.specs.Prelude.{ℕ, zero, suc, cond, ◌&&◌, List, [], ◌∷◌, ℤ, pos, ◌+ℤ◌, ◌-ℤ◌, ◌==◌}
+use Rattle.credit.specs.declared.payment.Payment.{Payment}
 use Rattle.credit.specs.Sums.{only}
 use Rattle.calls.specs.declared.call.Call.{Call}
 use Rattle.calls.specs.declared.call.Call.TheVariants.{Open, Pay, Reserve, Book, Release, Begin, End, Abandon, Tidy}
@@ -9,7 +10,7 @@ use Rattle.replay.specs.Runs.{Turn, Reply, done, reserved, released, kept, undon
 -- how far i trusts j once a line is opened, if the call was accepted
 abbrev pub trust_opened : ℕ → ℕ → ℤ → ℤ → Reply → ℕ → ℕ → ℤ → ℤ
 trust_opened x y t u done i j before = cond (i == x && j == y) t (cond (i == y && j == x) u before)
-trust_opened x y t u (reserved p q n) i j before = before
+trust_opened x y t u (reserved pay) i j before = before
 trust_opened x y t u (released b) i j before = before
 trust_opened x y t u kept i j before = before
 trust_opened x y t u undone i j before = before
@@ -17,10 +18,10 @@ trust_opened x y t u (refused e) i j before = before
 
 abbrev pub trust_by : Call → Reply → ℕ → ℕ → ℤ → ℤ
 trust_by (Open x y t u) r i j before = trust_opened x y t u r i j before
-trust_by (Pay k p q n) r i j before = before
-trust_by (Reserve k p q n) r i j before = before
-trust_by (Book k p q n) r i j before = before
-trust_by (Release p q n) r i j before = before
+trust_by (Pay k pay) r i j before = before
+trust_by (Reserve k pay) r i j before = before
+trust_by (Book k pay) r i j before = before
+trust_by (Release pay) r i j before = before
 trust_by Begin r i j before = before
 trust_by End r i j before = before
 trust_by Abandon r i j before = before
@@ -34,7 +35,7 @@ trust_set (t ∷ ts) i j = trust_by t.call (reply t.answer) i j (trust_set ts i 
 -- ---- payments
 -- what a call and its answer mean for payments
 pub data Event : Type 0 where
-  pays : ℕ → ℕ → ℤ → Event
+  pays : Payment → Event
   begins : Event
   keeps : Event
   undoes : Event
@@ -42,7 +43,7 @@ pub data Event : Type 0 where
 
 abbrev pub if_done : Reply → Event → Event
 if_done done v = v
-if_done (reserved p q n) v = other
+if_done (reserved pay) v = other
 if_done (released b) v = other
 if_done kept v = other
 if_done undone v = other
@@ -50,7 +51,7 @@ if_done (refused e) v = other
 
 abbrev pub closing : Reply → Event
 closing done = other
-closing (reserved p q n) = other
+closing (reserved pay) = other
 closing (released b) = other
 closing kept = keeps
 closing undone = undoes
@@ -58,10 +59,10 @@ closing (refused e) = other
 
 abbrev pub event : Call → Reply → Event
 event (Open x y t u) r = other
-event (Pay k p q n) r = if_done r (pays p q n)
-event (Reserve k p q n) r = other
-event (Book k p q n) r = if_done r (pays p q n)
-event (Release p q n) r = other
+event (Pay k pay) r = if_done r (pays pay)
+event (Reserve k pay) r = other
+event (Book k pay) r = if_done r (pays pay)
+event (Release pay) r = other
 event Begin r = if_done r begins
 event End r = closing r
 event Abandon r = closing r
@@ -70,8 +71,8 @@ event Tidy r = other
 -- What payments brought a member less what they cost it. Going back from the newest call, a payment counts unless it
 -- lies between the close of an undone group and the begin of that group: depth is the number of begins still to be met.
 abbrev pub tally_by : Event → ℕ → ℕ → (ℕ → ℤ) → ℤ
-tally_by (pays p q n) m zero earlier = (earlier zero -ℤ only (m == p) n) +ℤ only (m == q) n
-tally_by (pays p q n) m (suc depth) earlier = earlier (suc depth)
+tally_by (pays pay) m zero earlier = (earlier zero -ℤ only (m == pay.payer) pay.amount) +ℤ only (m == pay.payee) pay.amount
+tally_by (pays pay) m (suc depth) earlier = earlier (suc depth)
 tally_by begins m zero earlier = earlier zero
 tally_by begins m (suc depth) earlier = earlier depth
 tally_by keeps m zero earlier = earlier zero

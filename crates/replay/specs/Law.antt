@@ -1,6 +1,7 @@
 -- The law of router independence, over whole runs.
 use Rattle.std.specs.Prelude.{◌≡◌, ℕ, zero, ◌^◌, ◌<◌, true, false, List, [], ◌∷◌, ℤ, ◌+ℤ◌, ◌<ℤ◌}
 use Rattle.members.specs.Groups.{inside}
+use Rattle.credit.specs.declared.payment.Payment.{Payment}
 use Rattle.credit.specs.Refusals.{passes}
 use Rattle.credit.specs.Net.{net}
 use Rattle.credit.specs.Rooms.{trust_into, net_inside}
@@ -16,24 +17,24 @@ abbrev pub room_by : ℕ → List Turn → ℤ
 room_by g ts = trust_into g (trust_set ts) +ℤ net_inside g (λ m. net m (latest ts).lines)
 
 -- some group has the payer inside, the payee outside and less room than the amount
-abbrev pub Short : List Turn → ℕ → ℕ → ℤ → Type 0
-Short ts p q n = (g : ℕ) × (g < 2 ^ 64) × (inside g p ≡ true) × (inside g q ≡ false) × (room_by g ts <ℤ n)
+abbrev pub Short : List Turn → Payment → Type 0
+Short ts pay = (g : ℕ) × (g < 2 ^ 64) × (inside g pay.payer ≡ true) × (inside g pay.payee ≡ false) × (room_by g ts <ℤ pay.amount)
 
 abbrev pub LacksRoom : Reply → Type 0
 LacksRoom r = r ≡ refused 16
 
 -- where no earlier refusal applies, room is lacking exactly when some group is short of it
-abbrev pub LacksRight : ℕ → ℕ → ℕ → ℤ → List Turn → Reply → Type 0
-LacksRight k p q n ts r =
-    pay_checks (latest ts) k p q n ≡ passes → (LacksRoom r → Short ts p q n) × (Short ts p q n → LacksRoom r)
+abbrev pub LacksRight : ℕ → Payment → List Turn → Reply → Type 0
+LacksRight k pay ts r =
+    pay_checks (latest ts) k pay ≡ passes → (LacksRoom r → Short ts pay) × (Short ts pay → LacksRoom r)
 
 -- of a payment or a reservation; ts are the calls before it
 abbrev pub RoomRule : Call → List Turn → Reply → Type 0
 RoomRule (Open x y t u) ts r = Unit {0}
-RoomRule (Pay k p q n) ts r = LacksRight k p q n ts r
-RoomRule (Reserve k p q n) ts r = LacksRight k p q n ts r
-RoomRule (Book k p q n) ts r = Unit {0}
-RoomRule (Release p q n) ts r = Unit {0}
+RoomRule (Pay k pay) ts r = LacksRight k pay ts r
+RoomRule (Reserve k pay) ts r = LacksRight k pay ts r
+RoomRule (Book k pay) ts r = Unit {0}
+RoomRule (Release pay) ts r = Unit {0}
 RoomRule Begin ts r = Unit {0}
 RoomRule End ts r = Unit {0}
 RoomRule Abandon ts r = Unit {0}

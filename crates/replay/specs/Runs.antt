@@ -1,5 +1,6 @@
 -- Runs of a new ledger: a list of calls, each served by any router that keeps the meaning.
 use Rattle.std.specs.Prelude.{ℕ, Bool, List, [], ◌∷◌, map, ℤ}
+use Rattle.credit.specs.declared.payment.Payment.{Payment}
 use Rattle.credit.specs.Refusals.{number_of}
 use Rattle.credit.specs.Net.{net_table}
 use Rattle.calls.specs.declared.call.Call.{Call}
@@ -34,7 +35,7 @@ net_tables ts = map (λ t. net_table t.after.lines) ts
 -- an answer apart from the group named for want of room and that group's room: a refusal counts by its number
 pub data Reply : Type 0 where
   done : Reply
-  reserved : ℕ → ℕ → ℤ → Reply
+  reserved : Payment → Reply
   released : Bool → Reply
   kept : Reply
   undone : Reply
@@ -42,7 +43,7 @@ pub data Reply : Type 0 where
 
 abbrev pub reply : Answer → Reply
 reply Done = done
-reply (Reserved p q n) = reserved p q n
+reply (Reserved pay) = reserved pay
 reply (Released b) = released b
 reply Kept = kept
 reply Undone = undone

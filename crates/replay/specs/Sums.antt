@@ -1,6 +1,7 @@
 -- Worked sums, each over every run of a new ledger, whatever routers serve it.
 use Rattle.std.specs.Prelude.{◌≡◌, ℕ, List, [], ◌∷◌, replicate, ℤ, pos, neg_ℤ, None}
 use Rattle.credit.specs.declared.line.Line.{Line}
+use Rattle.credit.specs.declared.payment.Payment.{Payment}
 use Rattle.credit.specs.Rooms.{room}
 use Rattle.rings.specs.Rings.{owes}
 use Rattle.calls.specs.declared.call.Call.{Call}
@@ -18,8 +19,11 @@ Gives cs rs = (ts : List Turn) → Run ts → calls ts ≡ cs → replies ts ≡
 abbrev pub network : List Call
 network = Open 2 3 (pos 20) (pos 40) ∷ Open 1 2 (pos 50) (pos 30) ∷ []
 
+abbrev pub due : ℕ → ℕ → ℕ → Payment
+due p q n = record { payer = p; payee = q; amount = pos n }
+
 abbrev pub pay : ℕ → ℕ → ℕ → Call
-pay p q n = Pay 256 p q (pos n)
+pay p q n = Pay 256 (due p q n)
 
 -- a line with trust of 10 both ways and a debt
 abbrev pub owing : ℕ → ℕ → ℤ → Line

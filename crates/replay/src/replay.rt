@@ -5,9 +5,10 @@ ghost use Rattle.replay.specs.Records.{Closed, ClosedTwice};
 
 use crate::entry::Entry;
 use crate::serve::serve;
-use crate::tokens::{Held, Served, give_back};
+use crate::tokens::{Served, give_back};
 use calls::call::Call;
 use credit::line::Line;
+use ledger::reservation::Reservation;
 use ledger::state::Ledger;
 use routing::router::Router;
 use std::alloc::{AllocError, Global};
@@ -33,10 +34,9 @@ fn close<R: Router>(heap: Global, calls: &[Call], router: &mut R) -> Result<Jour
 {
     let mut entries = Vec::with_capacity(heap, calls.len())?;
     let mut ledger = Ledger::new(heap)?;
-    let mut held: Option<Held> = None;
+    let mut held: Option<Reservation> = None;
     for call in calls {
-        let served = serve(&mut ledger, router, held, *call);
-        let Served { answer, held: kept } = served;
+        let Served { answer, held: kept } = serve(&mut ledger, router, held, *call);
         held = kept;
         let nets = ledger.net_positions();
         entries.push_reserved(Entry {

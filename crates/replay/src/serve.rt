@@ -3,10 +3,9 @@ ghost use Rattle.std.specs.Prelude.{◌≡◌, length, ◌==◌};
 ghost use Rattle.ledger.specs.States.{state_of};
 ghost use Rattle.replay.specs.Tokens.{places_of, on_sheet, Genuine, Serves};
 
-use crate::tokens::{Held, Served, book, release, reserve};
-use calls::answer::{closed_or, done_or};
+use crate::tokens::{Served, book, release, reserve};
 use calls::call::{Answer, Call};
-use ledger::reservation::Claim;
+use ledger::reservation::Reservation;
 use ledger::state::Ledger;
 use routing::router::Router;
 
@@ -14,7 +13,7 @@ use routing::router::Router;
 fn serve_on<R: Router>(
     ledger: &mut Ledger,
     router: &mut R,
-    held: Option<Held>,
+    held: Option<Reservation>,
     call: Call,
     sheet: &mut [i32],
 ) -> Served
@@ -28,77 +27,26 @@ fn serve_on<R: Router>(
             trust,
             back,
         } => Served {
-            answer: done_or(ledger.open(first, second, trust, back)),
+            answer: Answer::from(ledger.open(first, second, trust, back)),
             held,
         },
-        Call::Pay {
-            places: _,
-            payer,
-            payee,
-            amount,
-        } => Served {
-            answer: done_or(ledger.pay(router, payer, payee, amount, sheet)),
+        Call::Pay { payment, .. } => Served {
+            answer: Answer::from(ledger.pay(router, payment, sheet)),
             held,
         },
-        Call::Reserve {
-            places: _,
-            payer,
-            payee,
-            amount,
-        } => {
-            reserve(
-                ledger,
-                router,
-                held,
-                Claim {
-                    payer,
-                    payee,
-                    amount,
-                },
-                sheet,
-            )
-        }
-        Call::Book {
-            places: _,
-            payer,
-            payee,
-            amount,
-        } => {
-            book(
-                ledger,
-                router,
-                held,
-                Claim {
-                    payer,
-                    payee,
-                    amount,
-                },
-                sheet,
-            )
-        }
-        Call::Release {
-            payer,
-            payee,
-            amount,
-        } => release(
-            ledger,
-            held,
-            Claim {
-                payer,
-                payee,
-                amount,
-            },
-        ),
+        Call::Reserve { payment, .. } => reserve(ledger, router, held, payment, sheet),
+        Call::Book { payment, .. } => book(ledger, router, held, payment, sheet),
+        Call::Release(payment) => release(ledger, held, payment),
         Call::Begin => Served {
-            answer: done_or(ledger.begin()),
+            answer: Answer::from(ledger.begin()),
             held,
         },
         Call::End => Served {
-            answer: closed_or(ledger.end()),
+            answer: Answer::from(ledger.end()),
             held,
         },
         Call::Abandon => Served {
-            answer: closed_or(ledger.abandon()),
+            answer: Answer::from(ledger.abandon()),
             held,
         },
         Call::Tidy => {
@@ -116,9 +64,9 @@ fn takes_whole(call: &Call) -> bool
     ensures { result ≡ (places_of call.now == 256) }
 {
     match call {
-        Call::Pay { places, .. } => *places == 256,
-        Call::Reserve { places, .. } => *places == 256,
-        Call::Book { places, .. } => *places == 256,
+        Call::Pay { places, .. } | Call::Reserve { places, .. } | Call::Book { places, .. } => {
+            *places == 256
+        }
         _ => true,
     }
 }
@@ -128,7 +76,7 @@ fn takes_whole(call: &Call) -> bool
 pub(crate) fn serve<R: Router>(
     ledger: &mut Ledger,
     router: &mut R,
-    held: Option<Held>,
+    held: Option<Reservation>,
     call: Call,
 ) -> Served
     requires { Genuine held (state_of ledger.old) }

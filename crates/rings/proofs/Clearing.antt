@@ -1,8 +1,13 @@
 -- The ring that a chain of debts closes to, and lines that no ring leads over.
-use Rattle.std.proofs.Common.{◌≡◌, ℕ, ◌+◌, ◌<◌, ◌≤◌, Bool, true, false, ◌&&◌, ◌||◌, eqb, ◌≢◌, ◌⊎◌, List, [], ◌∷◌, ◌++◌, length, get_or, ℤ, pos, negsuc, ◌-ℤ◌, neg_ℤ, nat_abs, ◌≤ℤ◌, ◌<ℤ◌, sym, refl, ap, ◌∙◌, subst, ap₂, subst₂, inl, inr, arith, below_more}
+use Rattle.std.proofs.Common.{◌≡◌, ℕ, ◌+◌, ◌-◌, ◌<◌, ◌≤◌, Bool, true, false, ◌&&◌, ◌||◌, eqb, ◌≢◌, ◌⊎◌, List, [], ◌∷◌, ◌++◌, length, get_or, ℤ, Ok, Err, Result, MatchOption, pos, negsuc, ◌-ℤ◌, neg_ℤ, nat_abs, ◌≤ℤ◌, ◌<ℤ◌, sym, refl, ap, ◌∙◌, subst, ap₂, subst₂, inl, inr, arith, below_more}
 use Rattle.std.proofs.lemmas.Int.{ints}
 use Rattle.std.proofs.lemmas.Bool.{and_parts, or_cases, or_left, or_right, eqb-true, cases_eq}
 use Rattle.members.specs.Groups.{inside}
+use Rattle.std.specs.Result.{result_ok}
+use Rattle.search.specs.declared.chain.Chain.{Chain}
+use Rattle.search.specs.declared.chain.NoChain.{NoChain}
+use Rattle.search.specs.declared.chain.NoChain.TheVariants.{NotMembers, Closed}
+use Rattle.search.specs.Answers.{Searched}
 use Rattle.search.specs.Chains.{IsShortest, Separates}
 use Rattle.credit.specs.declared.line.Line.{Line}
 use Rattle.credit.specs.Sums.{only, every}
@@ -13,36 +18,36 @@ use Rattle.credit.proofs.Sums.{every_at}
 use Rattle.credit.proofs.Bounds.{Bounds, bounded_facts}
 use Rattle.rings.specs.Rings.{line_owes, owes, walk, steps, on, Ring, cancel, Cancels, Tidied}
 use Rattle.rings.specs.Steps.{DebtStep, Shrinks, Eases}
-use Rattle.rings.specs.Rounds.{round, Apart, Rounds, RoundOver, Under, Met, Ringed, Clear, Reached}
+use Rattle.rings.specs.Rounds.{Apart, Rounds, RoundOver, Under, Met, Ringed, Clear, Reached}
 use Rattle.rings.proofs.Rings.{ring_falls, owed_at, Keeps, cancels_keep}
-use Rattle.rings.proofs.Stepping.{owes_cases, owes_onward, owes_back, step_from_owes, step_members, owes_at, round_length, round_once, rounds_ringed, under_step, met_step, closing_on, on_self}
+use Rattle.rings.proofs.Stepping.{owes_cases, owes_one, owes_nobody, owes_onward, owes_back, step_from_owes, step_members, owes_at, apart_once, rounds_ringed, under_step, met_step, closing_on, on_self}
 
 no : {X : Type 0} → ◌≡◌ {A = ℕ} 0 1 → X
 no e = absurd (omega arith)
 
 -- ---- the least debt of a ring
-module _ (ls : List Line) (c : List ℕ) (k : ℕ) (d : distinct ls ≡ true) (b : every bounded ls ≡ true) (r : Rounds ls c k) where
+module _ (ls : List Line) (c : List ℕ) (d : distinct ls ≡ true) (b : every bounded ls ≡ true) (r : Rounds ls c) where
   at_order : (i : ℕ) → i < length ls → Bounds (get_or ls i no_line)
   at_order i h = bounded_facts (get_or ls i no_line) (every_at bounded ls i no_line b h)
 
   -- v is the least debt: it is under each, and one of them
-  ring_met : (v : ℤ) → ((i : ℕ) → i < length ls → Under (round c k) v (get_or ls i no_line)) → (i : ℕ) × (i < length ls) × Met (round c k) v (get_or ls i no_line) → Ring ls (round c k) v
+  ring_met : (v : ℤ) → ((i : ℕ) → i < length ls → Under c v (get_or ls i no_line)) → (i : ℕ) × (i < length ls) × Met c v (get_or ls i no_line) → Ring ls c v
   ring_met v u m =
-      let p = met_step (round c k) v (get_or ls m.0 no_line) (at_order m.0 m.1).order m.2 in
+      let p = met_step c v (get_or ls m.0 no_line) (at_order m.0 m.1).order m.2 in
       let o = owed_at ls m.0 d b m.1 in
       let all = whole p.0 p.1 p.4 o in
       record {
-        three = omega (arith, round_length c k r.different, r.three);
-        apart = round_once c k r.different;
+        three = r.three;
+        apart = apart_once c r.different;
         owing = owing;
         least = (p.0, p.1, p.2, all ∙ sym p.3);
         some = positive p.0 p.1 p.2 (all ∙ sym p.3);
       }
     where
-      owing : (x y : ℕ) → on x y (steps (round c k)) ≡ true → v ≤ℤ owes x y ls
+      owing : (x y : ℕ) → on x y (steps c) ≡ true → v ≤ℤ owes x y ls
       owing x y e =
-          let s = rounds_ringed ls c k r x y e in
-          omega (arith, ints, owes_at x y ls d b s, under_step (round c k) v (get_or ls s.0 no_line) x y (at_order s.0 s.1).order (u s.0 s.1) s.2 e)
+          let s = rounds_ringed ls c r x y e in
+          omega (arith, ints, owes_at x y ls d b s, under_step c v (get_or ls s.0 no_line) x y (at_order s.0 s.1).order (u s.0 s.1) s.2 e)
 
       whole : (x y : ℕ) → ((x ≡ (get_or ls m.0 no_line).b) × (y ≡ (get_or ls m.0 no_line).a)) ⊎ ((x ≡ (get_or ls m.0 no_line).a) × (y ≡ (get_or ls m.0 no_line).b))
           → (owes (get_or ls m.0 no_line).b (get_or ls m.0 no_line).a ls ≡ (get_or ls m.0 no_line).debt) × (owes (get_or ls m.0 no_line).a (get_or ls m.0 no_line).b ls ≡ neg_ℤ (get_or ls m.0 no_line).debt)
@@ -50,14 +55,17 @@ module _ (ls : List Line) (c : List ℕ) (k : ℕ) (d : distinct ls ≡ true) (b
       whole x y (inl e) o = subst₂ (λ (s t : ℕ). owes s t ls ≡ line_owes s t (get_or ls m.0 no_line)) (sym e.0) (sym e.1) (o.0 ∙ sym (owes_onward (get_or ls m.0 no_line) (at_order m.0 m.1).order))
       whole x y (inr e) o = subst₂ (λ (s t : ℕ). owes s t ls ≡ line_owes s t (get_or ls m.0 no_line)) (sym e.0) (sym e.1) (o.1 ∙ sym (owes_back (get_or ls m.0 no_line) (at_order m.0 m.1).order))
 
-      positive : (x y : ℕ) → on x y (steps (round c k)) ≡ true → owes x y ls ≡ v → pos 0 <ℤ v
-      positive x y e f = let s = rounds_ringed ls c k r x y e in omega (arith, ints, owes_at x y ls d b s, f, s.2)
+      positive : (x y : ℕ) → on x y (steps c) ≡ true → owes x y ls ≡ v → pos 0 <ℤ v
+      positive x y e f = let s = rounds_ringed ls c r x y e in omega (arith, ints, owes_at x y ls d b s, f, s.2)
 
   -- the same where v may still be the largest trust, from which the count down began
-  pub ring_least : (v : ℤ) → ((i : ℕ) → i < length ls → Under (round c k) v (get_or ls i no_line)) → (v ≡ pos 1000000) ⊎ ((i : ℕ) × (i < length ls) × Met (round c k) v (get_or ls i no_line)) → Ring ls (round c k) v
+  pub ring_least : (v : ℤ) → ((i : ℕ) → i < length ls → Under c v (get_or ls i no_line)) → (v ≡ pos 1000000) ⊎ ((i : ℕ) × (i < length ls) × Met c v (get_or ls i no_line)) → Ring ls c v
   ring_least v u (inr m) = ring_met v u m
   ring_least v u (inl e) = ring_met v u (s.0, s.1, met (owes_cases (get_or c k 0) (get_or c 0 0) l s.2))
     where
+      k : ℕ
+      k = length c - 1
+
       s : DebtStep ls (get_or c k 0) (get_or c 0 0)
       s = r.closing
 
@@ -70,12 +78,12 @@ module _ (ls : List Line) (c : List ℕ) (k : ℕ) (d : distinct ls ≡ true) (b
       top : v ≡ pos 1000000
       top = e
 
-      here : on (get_or c k 0) (get_or c 0 0) (steps (round c k)) ≡ true
-      here = closing_on c k (omega (arith, r.different.long, r.different.short))
+      here : on (get_or c k 0) (get_or c 0 0) (steps c) ≡ true
+      here = closing_on c k (omega (arith, r.three))
 
-      met : ((get_or c k 0 ≡ l.b) × (get_or c 0 0 ≡ l.a) × (pos 0 <ℤ l.debt)) ⊎ ((get_or c k 0 ≡ l.a) × (get_or c 0 0 ≡ l.b) × (l.debt <ℤ pos 0)) → Met (round c k) v l
-      met (inl q) = let e = sym (ap₂ (λ (x y : ℕ). on x y (steps (round c k))) q.0 q.1) ∙ here in inl (e, omega (arith, ints, top, f.most, f.no_more_a, (u s.0 s.1).0 e))
-      met (inr q) = let e = sym (ap₂ (λ (x y : ℕ). on x y (steps (round c k))) q.0 q.1) ∙ here in inr (e, omega (arith, ints, top, f.least, f.no_more_b, (u s.0 s.1).1 e))
+      met : ((get_or c k 0 ≡ l.b) × (get_or c 0 0 ≡ l.a) × (pos 0 <ℤ l.debt)) ⊎ ((get_or c k 0 ≡ l.a) × (get_or c 0 0 ≡ l.b) × (l.debt <ℤ pos 0)) → Met c v l
+      met (inl q) = let e = sym (ap₂ (λ (x y : ℕ). on x y (steps c)) q.0 q.1) ∙ here in inl (e, omega (arith, ints, top, f.most, f.no_more_a, (u s.0 s.1).0 e))
+      met (inr q) = let e = sym (ap₂ (λ (x y : ℕ). on x y (steps c)) q.0 q.1) ∙ here in inr (e, omega (arith, ints, top, f.least, f.no_more_b, (u s.0 s.1).1 e))
 
 -- ---- what holds of each step round a ring
 module _ (P : ℕ → Type 0) where
@@ -125,24 +133,11 @@ pub clear_separated : (ls : List Line) (i x y g : ℕ) → every bounded ls ≡ 
 clear_separated ls i x y g b o hy hx cl u v q ms r e =
     hx (subst (λ (n : ℕ). inside g n ≡ true) same.0 (around (λ n. inside g n ≡ true) ms u v (λ s t f h. let d = r s t f in let w = step_members s t ls b d in cl s t w.0 w.1 h d) e (subst (λ (n : ℕ). inside g n ≡ true) (sym same.1) hy)))
   where
-    l : Line
-    l = get_or ls i no_line
-
-    match : ((x ≡ l.b) × (y ≡ l.a) × (pos 0 <ℤ l.debt)) ⊎ ((x ≡ l.a) × (y ≡ l.b) × (l.debt <ℤ pos 0)) → ((u ≡ l.b) × (v ≡ l.a) × (pos 0 <ℤ l.debt)) ⊎ ((u ≡ l.a) × (v ≡ l.b) × (l.debt <ℤ pos 0)) → (u ≡ x) × (v ≡ y)
-    match (inl h) (inl k) = (k.0 ∙ sym h.0, k.1 ∙ sym h.1)
-    match (inl h) (inr k) = absurd (omega (arith, ints, h.2, k.2))
-    match (inr h) (inl k) = absurd (omega (arith, ints, h.2, k.2))
-    match (inr h) (inr k) = (k.0 ∙ sym h.0, k.1 ∙ sym h.1)
-
     same : (u ≡ x) × (v ≡ y)
-    same = match (owes_cases x y l o) (owes_cases u v l q)
+    same = owes_one x y u v (get_or ls i no_line) o q
 
 pub clear_zero : (ls : List Line) (i : ℕ) → (get_or ls i no_line).debt ≡ pos 0 → Clear ls i
-clear_zero ls i z x y o ms r e = go (owes_cases x y (get_or ls i no_line) o)
-  where
-    go : ((x ≡ (get_or ls i no_line).b) × (y ≡ (get_or ls i no_line).a) × (pos 0 <ℤ (get_or ls i no_line).debt)) ⊎ ((x ≡ (get_or ls i no_line).a) × (y ≡ (get_or ls i no_line).b) × ((get_or ls i no_line).debt <ℤ pos 0)) → ⊥
-    go (inl h) = omega (arith, ints, z, h.2)
-    go (inr h) = omega (arith, ints, z, h.2)
+clear_zero ls i z x y o ms r e = owes_nobody x y (get_or ls i no_line) z o
 
 -- who owes on a line whose debt shrank owed there before
 owed_before : (x y : ℕ) (l : Line) (d : ℤ) → Shrinks l.debt d → pos 0 <ℤ line_owes x y (with_debt l d) → pos 0 <ℤ line_owes x y l
@@ -223,15 +218,18 @@ ring_nearer ls ms v i x y r d b h o e =
     go (inr k) = or_right (on l.b l.a (steps ms)) (on l.a l.b (steps ms)) (sym (ap₂ (λ (s t : ℕ). on s t (steps ms)) k.0 k.1) ∙ e)
 
 -- ---- a chain from the creditor of a line back to its debtor closes to a ring
-pub rounds_from : (ls : List Line) (i x y : ℕ) (c : List ℕ) (k : ℕ) → distinct ls ≡ true → every bounded ls ≡ true → i < length ls → pos 0 <ℤ line_owes x y (get_or ls i no_line)
-    → Apart c k → get_or c 0 0 ≡ y → get_or c k 0 ≡ x → ((j : ℕ) → j < k → DebtStep ls (get_or c j 0) (get_or c (j + 1) 0)) → Rounds ls c k
-rounds_from ls i x y c k d b h o a first last linked = record {
+pub rounds_from : (ls : List Line) (i x y : ℕ) (c : List ℕ) → distinct ls ≡ true → every bounded ls ≡ true → i < length ls → pos 0 <ℤ line_owes x y (get_or ls i no_line)
+    → Apart c → 0 < length c → get_or c 0 0 ≡ y → get_or c (length c - 1) 0 ≡ x → ((j : ℕ) → j + 1 < length c → DebtStep ls (get_or c j 0) (get_or c (j + 1) 0)) → Rounds ls c
+rounds_from ls i x y c d b h o a some first last linked = record {
   three = long (cases_eq k 0) (cases_eq k 1);
   different = a;
   linked = linked;
   closing = subst₂ (λ (s t : ℕ). DebtStep ls s t) (sym last) (sym first) (i, h, o);
 }
   where
+    k : ℕ
+    k = length c - 1
+
     l : Line
     l = get_or ls i no_line
 
@@ -247,7 +245,7 @@ rounds_from ls i x y c k d b h o a first last linked = record {
     differ (inl p) e = omega (arith, f.order, p.0, p.1, e)
     differ (inr p) e = omega (arith, f.order, p.0, p.1, e)
 
-    long : (k ≡ 0) ⊎ (k ≡ 0 → ⊥) → (k ≡ 1) ⊎ (k ≡ 1 → ⊥) → 2 ≤ k
+    long : (k ≡ 0) ⊎ (k ≡ 0 → ⊥) → (k ≡ 1) ⊎ (k ≡ 1 → ⊥) → 3 ≤ length c
     long (inl e) q = absurd (differ (owes_cases x y l o) (sym last ∙ ap (λ (n : ℕ). get_or c n 0) e ∙ first))
     long (inr e) (inl q) =
         let s : DebtStep ls y x = subst₂ (λ (u v : ℕ). DebtStep ls u v) first (ap (λ (n : ℕ). get_or c n 0) (sym q) ∙ last) (linked 0 (omega arith)) in
@@ -255,24 +253,31 @@ rounds_from ls i x y c k d b h o a first last linked = record {
     long (inr e) (inr q) = omega (arith, e, q)
 
 -- ---- what a search from the creditor of a line to its debtor shows
-pub over_along : (ls : List Line) (i x y : ℕ) (c : List ℕ) (k : ℕ) → distinct ls ≡ true → every bounded ls ≡ true → i < length ls → pos 0 <ℤ line_owes x y (get_or ls i no_line)
-    → length c ≡ 64 → IsShortest (DebtStep ls) y x c k → RoundOver ls i c k
-over_along ls i x y c k d b h o n s =
-    let t = s.chain in (
-      rounds_from ls i x y c k d b h o (record { long = n; short = omega (arith, n, t.long); members = t.members; apart = s.apart }) t.first t.last t.linked,
+over_along : (ls : List Line) (i x y : ℕ) (c : List ℕ) → distinct ls ≡ true → every bounded ls ≡ true → i < length ls → pos 0 <ℤ line_owes x y (get_or ls i no_line)
+    → IsShortest (DebtStep ls) y x c (length c - 1) → RoundOver ls i c
+over_along ls i x y c d b h o s =
+    let t = s.chain in
+    let some : 0 < length c = omega (arith, t.long) in
+    let a : Apart c = record { members = λ i g. t.members i (omega arith); apart = λ i j g l. s.apart i j (omega arith) (omega arith) } in (
+      rounds_from ls i x y c d b h o a some t.first t.last (λ j g. t.linked j (omega arith)),
       subst₂ (λ (u v : ℕ). pos 0 <ℤ line_owes u v (get_or ls i no_line)) (sym t.last) (sym t.first) o,
     )
 
-pub over_closed : (ls : List Line) (i x y g : ℕ) → every bounded ls ≡ true → pos 0 <ℤ line_owes x y (get_or ls i no_line) → Separates (DebtStep ls) y x g → Clear ls i
+over_closed : (ls : List Line) (i x y g : ℕ) → every bounded ls ≡ true → pos 0 <ℤ line_owes x y (get_or ls i no_line) → Separates (DebtStep ls) y x g → Clear ls i
 over_closed ls i x y g b o s = clear_separated ls i x y g b o s.inside s.outside s.closed
 
+pub over_searched : (ls : List Line) (i x y : ℕ) → distinct ls ≡ true → every bounded ls ≡ true → i < length ls → pos 0 <ℤ line_owes x y (get_or ls i no_line)
+    → (r : Result Chain NoChain) → Searched (DebtStep ls) y x r → MatchOption (result_ok r) (Clear ls i) (λ chain. RoundOver ls i chain.members.items)
+over_searched ls i x y d b h o (Ok chain) a = over_along ls i x y chain.members.items d b h o a.2
+over_searched ls i x y d b h o (Err NotMembers) a = let m = step_members x y ls b (i, h, o) in absurd (a m.1 m.0)
+over_searched ls i x y d b h o (Err (Closed group)) a = over_closed ls i x y group.bits b o a.2
+
 -- one cancelling over line i
-pub over_nearer : (ls ks : List Line) (i : ℕ) (c : List ℕ) (k : ℕ) (v : ℤ) → distinct ls ≡ true → every bounded ls ≡ true → i < length ls → RoundOver ls i c k
-    → Ring ls (round c k) v → ks ≡ cancel (steps (round c k)) v ls → nat_abs (get_or ks i no_line).debt < nat_abs (get_or ls i no_line).debt
-over_nearer ls ks i c k v d b h r q e =
-    let a = r.0.different in
+pub over_nearer : (ls ks : List Line) (i : ℕ) (c : List ℕ) (v : ℤ) → distinct ls ≡ true → every bounded ls ≡ true → i < length ls → RoundOver ls i c
+    → Ring ls c v → ks ≡ cancel (steps c) v ls → nat_abs (get_or ks i no_line).debt < nat_abs (get_or ls i no_line).debt
+over_nearer ls ks i c v d b h r q e =
     subst (λ (js : List Line). nat_abs (get_or js i no_line).debt < nat_abs (get_or ls i no_line).debt) (sym e)
-    (ring_nearer ls (round c k) v i (get_or c k 0) (get_or c 0 0) q d b h r.1 (closing_on c k (omega (arith, a.long, a.short))))
+    (ring_nearer ls c v i (get_or c (length c - 1) 0) (get_or c 0 0) q d b h r.1 (closing_on c (length c - 1) (omega (arith, r.0.three))))
 
 -- the lines from 0 to i are cleared
 pub cleared_more : (ls ks js : List Line) (i : ℕ) → distinct ls ≡ true → every bounded ls ≡ true → Reached ls ks → i < length ks → ((j : ℕ) → j < i → Clear ks j) → Reached ks js → Clear js i → (j : ℕ) → j < i + 1 → Clear js j

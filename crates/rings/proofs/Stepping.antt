@@ -1,8 +1,9 @@
 -- Steps round a ring by their places, and lines that no ring of debts leads over.
-use Rattle.std.proofs.Common.{◌≡◌, ℕ, zero, suc, ◌+◌, ◌<◌, ◌≤◌, Bool, true, false, cond, not, ◌&&◌, eqb, ◌≢◌, ◌⊎◌, List, [], ◌∷◌, ◌++◌, length, get_or, take, set, replicate, ℤ, pos, ◌-ℤ◌, neg_ℤ, ◌≤ℤ◌, ◌<ℤ◌, sym, refl, ap, ◌∙◌, subst, ap₂, subst₂, inl, inr, add-one, arith}
+use Rattle.std.proofs.Common.{◌≡◌, ℕ, zero, suc, ◌+◌, ◌-◌, ◌<◌, ◌≤◌, Bool, true, false, not, ◌&&◌, eqb, ◌≢◌, ◌⊎◌, List, [], ◌∷◌, ◌++◌, length, get_or, set, replicate, Some, None, Option, ℤ, pos, ◌-ℤ◌, neg_ℤ, ◌≤ℤ◌, ◌<ℤ◌, sym, refl, ap, ◌∙◌, subst, ap₂, subst₂, inl, inr, add-zero, add-one, arith}
 use Rattle.std.proofs.lemmas.Int.{ints, by_lt_z}
 use Rattle.std.proofs.lemmas.Bool.{and_parts, and_from, or_cases, or_left, or_right, eqb-true, eq-eqb, ne_eqb, cases_eq}
-use Rattle.std.proofs.lemmas.List.{length-set, length-take-le, get_or-take, get_or_append_left, get_or_at, get_or-set_same, get_or-set_other, get_or-replicate}
+use Rattle.std.proofs.lemmas.List.{length-set, get_or_append_left, get_or_at, get_or-set_same, get_or-set_other, get_or-replicate}
+use Rattle.std.specs.Option.{option_eq}
 use Rattle.credit.specs.declared.line.Line.{Line}
 use Rattle.credit.specs.Sums.{only, every}
 use Rattle.credit.specs.Net.{no_line, bounded}
@@ -11,7 +12,7 @@ use Rattle.credit.proofs.Sums.{every_at}
 use Rattle.credit.proofs.Bounds.{Bounds, bounded_facts}
 use Rattle.rings.specs.Rings.{line_owes, owes, walk, steps, has, once, on}
 use Rattle.rings.specs.Steps.{DebtStep}
-use Rattle.rings.specs.Rounds.{round, Apart, Rounds, Links, Under, Met, Ringed}
+use Rattle.rings.specs.Rounds.{Apart, Rounds, Links, Under, Met, Ringed}
 use Rattle.rings.proofs.Rings.{owed_at}
 
 no : {X : Type 0} → ◌≡◌ {A = ℕ} 0 1 → X
@@ -27,6 +28,24 @@ owes_cases x y l h = go (eqb x l.b && eqb y l.a) refl (eqb x l.a && eqb y l.b) r
     go true e false f k = let p = and_parts (eqb x l.b) (eqb y l.a) e in inl (eqb-true x l.b p.0, eqb-true y l.a p.1, omega (arith, ints, k))
     go false e true f k = let p = and_parts (eqb x l.a) (eqb y l.b) f in inr (eqb-true x l.a p.0, eqb-true y l.b p.1, omega (arith, ints, k))
     go false e false f k = absurd (omega (arith, ints, k))
+
+-- on a line one pair alone owes
+pub owes_one : (x y u v : ℕ) (l : Line) → pos 0 <ℤ line_owes x y l → pos 0 <ℤ line_owes u v l → (u ≡ x) × (v ≡ y)
+owes_one x y u v l o q = go (owes_cases x y l o) (owes_cases u v l q)
+  where
+    go : ((x ≡ l.b) × (y ≡ l.a) × (pos 0 <ℤ l.debt)) ⊎ ((x ≡ l.a) × (y ≡ l.b) × (l.debt <ℤ pos 0)) → ((u ≡ l.b) × (v ≡ l.a) × (pos 0 <ℤ l.debt)) ⊎ ((u ≡ l.a) × (v ≡ l.b) × (l.debt <ℤ pos 0)) → (u ≡ x) × (v ≡ y)
+    go (inl h) (inl k) = (k.0 ∙ sym h.0, k.1 ∙ sym h.1)
+    go (inl h) (inr k) = absurd (omega (arith, ints, h.2, k.2))
+    go (inr h) (inl k) = absurd (omega (arith, ints, h.2, k.2))
+    go (inr h) (inr k) = (k.0 ∙ sym h.0, k.1 ∙ sym h.1)
+
+-- and none where there is no debt
+pub owes_nobody : (x y : ℕ) (l : Line) → l.debt ≡ pos 0 → pos 0 <ℤ line_owes x y l → ⊥
+owes_nobody x y l z o = go (owes_cases x y l o)
+  where
+    go : ((x ≡ l.b) × (y ≡ l.a) × (pos 0 <ℤ l.debt)) ⊎ ((x ≡ l.a) × (y ≡ l.b) × (l.debt <ℤ pos 0)) → ⊥
+    go (inl h) = omega (arith, ints, z, h.2)
+    go (inr h) = omega (arith, ints, z, h.2)
 
 pub owes_onward : (l : Line) → l.a < l.b → line_owes l.b l.a l ≡ l.debt
 owes_onward l h =
@@ -99,42 +118,29 @@ place_on zero here (k ∷ ms) goal h = on_self here k (walk k ms goal)
 place_on (suc i) here (k ∷ ms) goal h =
     or_right (eqb here (get_or (k ∷ ms) i 0) && eqb k (get_or (ms ++ (goal ∷ [])) i 0)) (on (get_or (k ∷ ms) i 0) (get_or (ms ++ (goal ∷ [])) i 0) (walk k ms goal)) (place_on i k ms goal (omega arith))
 
--- entry i of a chain of k steps, and who follows it round
-abbrev after : List ℕ → ℕ → ℕ → ℕ
-after c k i = cond (eqb i k) (get_or c 0 0) (get_or c (i + 1) 0)
+-- who follows member i of a chain round
+abbrev after : List ℕ → ℕ → ℕ
+after [] i = 0
+after (m ∷ ms) i = get_or (ms ++ (m ∷ [])) i 0
 
-after_last : (c : List ℕ) (k : ℕ) → after c k k ≡ get_or c 0 0
-after_last c k = ap (λ (t : Bool). cond t (get_or c 0 0) (get_or c (k + 1) 0)) (eq-eqb k k refl)
+after_last : (c : List ℕ) (k : ℕ) → length c ≡ k + 1 → after c k ≡ get_or c 0 0
+after_last [] k n = absurd (omega arith)
+after_last (m ∷ ms) k n = get_or_at ms m [] 0 k (omega arith)
 
-after_inner : (c : List ℕ) (k i : ℕ) → i < k → after c k i ≡ get_or c (i + 1) 0
-after_inner c k i h = ap (λ (t : Bool). cond t (get_or c 0 0) (get_or c (i + 1) 0)) (ne_eqb i k (omega arith))
+after_inner : (c : List ℕ) (i : ℕ) → i + 1 < length c → after c i ≡ get_or c (i + 1) 0
+after_inner [] i h = absurd (omega arith)
+after_inner (m ∷ ms) i h = get_or_append_left ms (m ∷ []) 0 i (omega arith) ∙ ap (λ (n : ℕ). get_or (m ∷ ms) n 0) (sym (add-one i))
 
-follows : (m : ℕ) (rest : List ℕ) (k i : ℕ) → k ≤ length rest → i ≤ k → get_or (take k rest ++ (m ∷ [])) i 0 ≡ after (m ∷ rest) k i
-follows m rest k i l h = go (cases_eq i k)
-  where
-    go : (i ≡ k) ⊎ (i ≡ k → ⊥) → get_or (take k rest ++ (m ∷ [])) i 0 ≡ after (m ∷ rest) k i
-    go (inl e) = get_or_at (take k rest) m [] 0 i (length-take-le k rest l ∙ sym e) ∙ sym (ap (λ (t : Bool). cond t m (get_or (m ∷ rest) (i + 1) 0)) (eq-eqb i k e))
-    go (inr d) =
-        let lt : i < k = omega (arith, d) in
-        get_or_append_left (take k rest) (m ∷ []) 0 i (omega (arith, length-take-le k rest l))
-        ∙ get_or-take k rest i 0 lt ∙ sym (after_inner (m ∷ rest) k i lt ∙ ap (λ (n : ℕ). get_or (m ∷ rest) n 0) (add-one i))
+pub steps_place : (c : List ℕ) (x y : ℕ) → on x y (steps c) ≡ true → (i : ℕ) × (i < length c) × (get_or c i 0 ≡ x) × (after c i ≡ y)
+steps_place [] x y e = let z : ◌≡◌ {A = ℕ} 0 1 = cc in no z
+steps_place (m ∷ ms) x y e = let p = on_place x y m ms m e in (p.0, omega (arith, p.1), p.2, p.3)
 
-pub steps_place : (c : List ℕ) (k x y : ℕ) → k < length c → on x y (steps (round c k)) ≡ true → (i : ℕ) × (i ≤ k) × (get_or c i 0 ≡ x) × (after c k i ≡ y)
-steps_place [] k x y l e = absurd (omega arith)
-steps_place (m ∷ rest) k x y l e =
-    let p = on_place x y m (take k rest) m (ap (λ (n : ℕ). on x y (steps (take n (m ∷ rest)))) (sym (add-one k)) ∙ e) in
-    let h : p.0 ≤ k = omega (arith, p.1, length-take-le k rest (omega arith)) in
-    (p.0, h, sym (get_or-take (suc k) (m ∷ rest) p.0 0 (omega arith)) ∙ p.2, sym (follows m rest k p.0 (omega arith) h) ∙ p.3)
+pub place_steps : (c : List ℕ) (i : ℕ) → i < length c → on (get_or c i 0) (after c i) (steps c) ≡ true
+place_steps [] i h = absurd (omega arith)
+place_steps (m ∷ ms) i h = place_on i m ms m (omega arith)
 
-pub place_steps : (c : List ℕ) (k i : ℕ) → k < length c → i ≤ k → on (get_or c i 0) (after c k i) (steps (round c k)) ≡ true
-place_steps [] k i l h = absurd (omega arith)
-place_steps (m ∷ rest) k i l h =
-    ap (λ (n : ℕ). on (get_or (m ∷ rest) i 0) (after (m ∷ rest) k i) (steps (take n (m ∷ rest)))) (add-one k)
-    ∙ ap₂ (λ (x y : ℕ). on x y (walk m (take k rest) m)) (sym (get_or-take (suc k) (m ∷ rest) i 0 (omega arith))) (sym (follows m rest k i (omega arith) h))
-    ∙ place_on i m (take k rest) m (omega (arith, length-take-le k rest (omega arith)))
-
-pub closing_on : (c : List ℕ) (k : ℕ) → k < length c → on (get_or c k 0) (get_or c 0 0) (steps (round c k)) ≡ true
-closing_on c k h = ap (λ (n : ℕ). on (get_or c k 0) n (steps (round c k))) (sym (after_last c k)) ∙ place_steps c k k h (omega arith)
+pub closing_on : (c : List ℕ) (k : ℕ) → length c ≡ k + 1 → on (get_or c k 0) (get_or c 0 0) (steps c) ≡ true
+closing_on c k n = ap (λ (m : ℕ). on (get_or c k 0) m (steps c)) (sym (after_last c k n)) ∙ place_steps c k (omega arith)
 
 -- ---- the table of whom each member owes on a ring
 both_true : (p q : Bool) → (p ≡ true → q ≡ true) → (q ≡ true → p ≡ true) → p ≡ q
@@ -142,74 +148,95 @@ both_true true q f g = sym (f refl)
 both_true false true f g = g refl
 both_true false false f g = refl
 
+-- the table names y at x
+names : (o : Option ℕ) (y : ℕ) → option_eq eqb o (Some y) ≡ true → o ≡ Some y
+names None y e = let z : ◌≡◌ {A = ℕ} 0 1 = cc in no z
+names (Some x) y e = ap Some (eqb-true x y e)
+
 -- the first i steps of the chain stand in the table, and nothing else
-pub record Linking (c next : List ℕ) (i : ℕ) : Type 0 where
+pub record Linking (c : List ℕ) (next : List (Option ℕ)) (i : ℕ) : Type 0 where
   pub long : length next ≡ 64
-  pub led : (j : ℕ) → j < i → get_or next (get_or c j 0) 0 ≡ get_or c (j + 1) 0
-  pub rest : (m : ℕ) → m < 64 → (get_or next m 0 ≡ 64) ⊎ ((j : ℕ) × (j < i) × (get_or c j 0 ≡ m))
+  pub led : (j : ℕ) → j < i → get_or next (get_or c j 0) None ≡ Some (get_or c (j + 1) 0)
+  pub rest : (m : ℕ) → m < 64 → (get_or next m None ≡ None) ⊎ ((j : ℕ) × (j < i) × (get_or c j 0 ≡ m))
 
-pub linking_none : (c : List ℕ) → Linking c (replicate 64 64) 0
-linking_none c = record { long = refl; led = λ j h. absurd (omega arith); rest = λ m h. inl (get_or-replicate 64 m 64 0 h) }
+pub linking_none : (c : List ℕ) → Linking c (replicate 64 None) 0
+linking_none c = record { long = refl; led = λ j h. absurd (omega arith); rest = λ m h. inl (get_or-replicate 64 m None None h) }
 
-pub linking_more : (c next : List ℕ) (k i : ℕ) → Apart c k → i < k → Linking c next i → Linking c (set next (get_or c i 0) (get_or c (i + 1) 0)) (i + 1)
-linking_more c next k i a h l = record { long = length-set next (get_or c i 0) (get_or c (i + 1) 0) ∙ l.long; led = led'; rest = rest' }
+linking_more : (c : List ℕ) (next : List (Option ℕ)) (i : ℕ) → Apart c → i + 1 < length c → Linking c next i → Linking c (set next (get_or c i 0) (Some (get_or c (i + 1) 0))) (i + 1)
+linking_more c next i a h l = record { long = length-set next (get_or c i 0) (Some (get_or c (i + 1) 0)) ∙ l.long; led = led'; rest = rest' }
   where
-    led' : (j : ℕ) → j < i + 1 → get_or (set next (get_or c i 0) (get_or c (i + 1) 0)) (get_or c j 0) 0 ≡ get_or c (j + 1) 0
+    led' : (j : ℕ) → j < i + 1 → get_or (set next (get_or c i 0) (Some (get_or c (i + 1) 0))) (get_or c j 0) None ≡ Some (get_or c (j + 1) 0)
     led' j g = by (cases_eq j i)
       where
-        by : (j ≡ i) ⊎ (j ≡ i → ⊥) → get_or (set next (get_or c i 0) (get_or c (i + 1) 0)) (get_or c j 0) 0 ≡ get_or c (j + 1) 0
-        by (inl e) = subst (λ (n : ℕ). get_or (set next (get_or c i 0) (get_or c (i + 1) 0)) (get_or c n 0) 0 ≡ get_or c (n + 1) 0) (sym e) (get_or-set_same next (get_or c i 0) (get_or c (i + 1) 0) 0 (omega (arith, l.long, a.members i (omega arith))))
-        by (inr d) = get_or-set_other next (get_or c i 0) (get_or c j 0) (get_or c (i + 1) 0) 0 (λ e. d (a.apart j i (omega arith) (omega arith) e)) ∙ l.led j (omega (arith, d))
+        by : (j ≡ i) ⊎ (j ≡ i → ⊥) → get_or (set next (get_or c i 0) (Some (get_or c (i + 1) 0))) (get_or c j 0) None ≡ Some (get_or c (j + 1) 0)
+        by (inl e) = subst (λ (n : ℕ). get_or (set next (get_or c i 0) (Some (get_or c (i + 1) 0))) (get_or c n 0) None ≡ Some (get_or c (n + 1) 0)) (sym e) (get_or-set_same next (get_or c i 0) (Some (get_or c (i + 1) 0)) None (omega (arith, l.long, a.members i (omega arith))))
+        by (inr d) = get_or-set_other next (get_or c i 0) (get_or c j 0) (Some (get_or c (i + 1) 0)) None (λ e. d (a.apart j i (omega arith) (omega arith) e)) ∙ l.led j (omega (arith, d))
 
-    rest' : (m : ℕ) → m < 64 → (get_or (set next (get_or c i 0) (get_or c (i + 1) 0)) m 0 ≡ 64) ⊎ ((j : ℕ) × (j < i + 1) × (get_or c j 0 ≡ m))
+    rest' : (m : ℕ) → m < 64 → (get_or (set next (get_or c i 0) (Some (get_or c (i + 1) 0))) m None ≡ None) ⊎ ((j : ℕ) × (j < i + 1) × (get_or c j 0 ≡ m))
     rest' m g = by (cases_eq m (get_or c i 0)) (l.rest m g)
       where
-        by : (m ≡ get_or c i 0) ⊎ (m ≡ get_or c i 0 → ⊥) → (get_or next m 0 ≡ 64) ⊎ ((j : ℕ) × (j < i) × (get_or c j 0 ≡ m)) → (get_or (set next (get_or c i 0) (get_or c (i + 1) 0)) m 0 ≡ 64) ⊎ ((j : ℕ) × (j < i + 1) × (get_or c j 0 ≡ m))
+        by : (m ≡ get_or c i 0) ⊎ (m ≡ get_or c i 0 → ⊥) → (get_or next m None ≡ None) ⊎ ((j : ℕ) × (j < i) × (get_or c j 0 ≡ m)) → (get_or (set next (get_or c i 0) (Some (get_or c (i + 1) 0))) m None ≡ None) ⊎ ((j : ℕ) × (j < i + 1) × (get_or c j 0 ≡ m))
         by (inl e) r = inr (i, omega arith, sym e)
-        by (inr d) (inl r) = inl (get_or-set_other next (get_or c i 0) m (get_or c (i + 1) 0) 0 d ∙ r)
+        by (inr d) (inl r) = inl (get_or-set_other next (get_or c i 0) m (Some (get_or c (i + 1) 0)) None d ∙ r)
         by (inr d) (inr r) = inr (r.0, omega (arith, r.1), r.2)
 
--- the table once the chain is closed
-abbrev shut : List ℕ → List ℕ → ℕ → List ℕ
-shut c next k = set next (get_or c k 0) (get_or c 0 0)
+-- the next window of two members is noted
+pub linking_next : (c : List ℕ) (next : List (Option ℕ)) (i j x y : ℕ) → Apart c → i + 1 < length c → Linking c next i → j ≡ i + 1
+    → x ≡ get_or c (i + 0) 0 → y ≡ get_or c (i + 1) 0 → Linking c (set next x (Some y)) j
+linking_next c next i j x y a h l n e f =
+    let g : x ≡ get_or c i 0 = rw add-zero at e in
+    rw (n, f, g) (linking_more c next i a h l)
 
-pub linking_all : (c next : List ℕ) (k : ℕ) → Apart c k → Linking c next k → Links (set next (get_or c k 0) (get_or c 0 0)) (round c k)
-linking_all c next k a l x y hx hy = both_true (eqb (get_or (shut c next k) x 0) y) (on x y (steps (round c k))) onward back
+-- the last member's creditor is the first
+linking_all : (c : List ℕ) (next : List (Option ℕ)) (k : ℕ) → Apart c → length c ≡ k + 1 → Linking c next k → Links (set next (get_or c k 0) (Some (get_or c 0 0))) c
+linking_all c next k a n l x y hx hy = both_true (option_eq eqb (get_or shut x None) (Some y)) (on x y (steps c)) onward back
   where
-    same : get_or (shut c next k) (get_or c k 0) 0 ≡ get_or c 0 0
-    same = get_or-set_same next (get_or c k 0) (get_or c 0 0) 0 (omega (arith, l.long, a.members k (omega arith)))
+    shut : List (Option ℕ)
+    shut = set next (get_or c k 0) (Some (get_or c 0 0))
 
-    other : (m : ℕ) → m ≢ get_or c k 0 → get_or (shut c next k) m 0 ≡ get_or next m 0
-    other m d = get_or-set_other next (get_or c k 0) m (get_or c 0 0) 0 d
+    same : get_or shut (get_or c k 0) None ≡ Some (get_or c 0 0)
+    same = get_or-set_same next (get_or c k 0) (Some (get_or c 0 0)) None (omega (arith, l.long, a.members k (omega arith)))
 
-    at : (i : ℕ) → i ≤ k → get_or c i 0 ≡ x → after c k i ≡ y → on x y (steps (round c k)) ≡ true
-    at i h p q = sym (ap₂ (λ (u v : ℕ). on u v (steps (round c k))) p q) ∙ place_steps c k i (omega (arith, a.long, a.short)) h
+    other : (m : ℕ) → m ≢ get_or c k 0 → get_or shut m None ≡ get_or next m None
+    other m d = get_or-set_other next (get_or c k 0) m (Some (get_or c 0 0)) None d
 
-    onward : eqb (get_or (shut c next k) x 0) y ≡ true → on x y (steps (round c k)) ≡ true
-    onward e = by (cases_eq x (get_or c k 0))
+    -- the table names whom each member of the chain is followed by
+    named : (i : ℕ) → i < length c → get_or shut (get_or c i 0) None ≡ Some (after c i)
+    named i h = by (cases_eq i k)
       where
-        is : get_or (shut c next k) x 0 ≡ y
-        is = eqb-true (get_or (shut c next k) x 0) y e
+        by : (i ≡ k) ⊎ (i ≡ k → ⊥) → get_or shut (get_or c i 0) None ≡ Some (after c i)
+        by (inl e) = subst (λ (j : ℕ). get_or shut (get_or c j 0) None ≡ Some (after c j)) (sym e) (same ∙ ap Some (sym (after_last c k n)))
+        by (inr d) =
+            let lt : i < k = omega (arith, d, n, h) in
+            other (get_or c i 0) (λ e. d (a.apart i k h (omega arith) e)) ∙ l.led i lt ∙ ap Some (sym (after_inner c i (omega arith)))
 
-        in_chain : (get_or next x 0 ≡ 64) ⊎ ((j : ℕ) × (j < k) × (get_or c j 0 ≡ x)) → x ≢ get_or c k 0 → on x y (steps (round c k)) ≡ true
-        in_chain (inl r) d = absurd (omega (arith, r, is, other x d))
-        in_chain (inr r) d = at r.0 (omega (arith, r.1)) r.2 (after_inner c k r.0 r.1 ∙ sym (l.led r.0 r.1) ∙ ap (λ (m : ℕ). get_or next m 0) r.2 ∙ sym (other x d) ∙ is)
+    back : on x y (steps c) ≡ true → option_eq eqb (get_or shut x None) (Some y) ≡ true
+    back e =
+        let p = steps_place c x y e in
+        ap (λ (o : Option ℕ). option_eq eqb o (Some y)) (ap (λ (m : ℕ). get_or shut m None) (sym p.2) ∙ named p.0 p.1 ∙ ap Some p.3) ∙ eq-eqb y y refl
 
-        by : (x ≡ get_or c k 0) ⊎ (x ≡ get_or c k 0 → ⊥) → on x y (steps (round c k)) ≡ true
-        by (inl h) = at k (omega arith) (sym h) (after_last c k ∙ sym same ∙ ap (λ (m : ℕ). get_or (shut c next k) m 0) (sym h) ∙ is)
-        by (inr d) = in_chain (l.rest x hx) d
-
-    back : on x y (steps (round c k)) ≡ true → eqb (get_or (shut c next k) x 0) y ≡ true
-    back e = by (steps_place c k x y (omega (arith, a.long, a.short)) e)
+    onward : option_eq eqb (get_or shut x None) (Some y) ≡ true → on x y (steps c) ≡ true
+    onward e = place (stands (cases_eq x (get_or c k 0)) (l.rest x hx))
       where
-        by : (i : ℕ) × (i ≤ k) × (get_or c i 0 ≡ x) × (after c k i ≡ y) → eqb (get_or (shut c next k) x 0) y ≡ true
-        by p = eq-eqb (get_or (shut c next k) x 0) y (ap (λ (m : ℕ). get_or (shut c next k) m 0) (sym p.2) ∙ value (cases_eq p.0 k) ∙ p.3)
-          where
-            value : (p.0 ≡ k) ⊎ (p.0 ≡ k → ⊥) → get_or (shut c next k) (get_or c p.0 0) 0 ≡ after c k p.0
-            value (inl h) = subst (λ (n : ℕ). get_or (shut c next k) (get_or c n 0) 0 ≡ after c k n) (sym h) (same ∙ sym (after_last c k))
-            value (inr d) =
-                let lt : p.0 < k = omega (arith, d, p.1) in
-                other (get_or c p.0 0) (λ h. d (a.apart p.0 k p.1 (omega arith) h)) ∙ l.led p.0 lt ∙ sym (after_inner c k p.0 lt)
+        is : get_or shut x None ≡ Some y
+        is = names (get_or shut x None) y e
+
+        stands : (x ≡ get_or c k 0) ⊎ (x ≡ get_or c k 0 → ⊥) → (get_or next x None ≡ None) ⊎ ((j : ℕ) × (j < k) × (get_or c j 0 ≡ x)) → (j : ℕ) × (j < length c) × (get_or c j 0 ≡ x)
+        stands (inl h) r = (k, omega arith, sym h)
+        stands (inr d) (inl r) = let z : ◌≡◌ {A = Option ℕ} None (Some y) = sym r ∙ sym (other x d) ∙ is in cc
+        stands (inr d) (inr r) = (r.0, omega (arith, r.1, n), r.2)
+
+        place : (j : ℕ) × (j < length c) × (get_or c j 0 ≡ x) → on x y (steps c) ≡ true
+        place p =
+            let f : Some (after c p.0) ≡ Some y = sym (named p.0 p.1) ∙ ap (λ (m : ℕ). get_or shut m None) p.2 ∙ is in
+            let g : after c p.0 ≡ y = cc in
+            sym (ap₂ (λ (u v : ℕ). on u v (steps c)) p.2 g) ∙ place_steps c p.0 p.1
+
+pub linking_shut : (c s : List ℕ) (next ks : List (Option ℕ)) (k : ℕ) → Apart c → length c ≡ k + 1 → Linking c next k → s ≡ c
+    → ks ≡ set next (get_or s (length s - 1) 0) (Some (get_or s 0 0)) → Links ks c
+linking_shut c s next ks k a n l e f =
+    let m : length c - 1 ≡ k = omega arith in
+    rw (f, e, m) (linking_all c next k a n l)
 
 -- ---- no member twice
 has_place : (m : ℕ) (ms : List ℕ) → has m ms ≡ true → (j : ℕ) × (j < length ms) × (get_or ms j 0 ≡ m)
@@ -228,28 +255,27 @@ once_from (m ∷ ms) a = and_from (not (has m ms)) (once ms) (lacks (has m ms) r
     lacks true e = let p = has_place m ms e in absurd (omega (arith, a 0 (suc p.0) (omega arith) (omega (arith, p.1)) (sym p.2)))
     lacks false e = ap not e
 
-pub round_length : (c : List ℕ) (k : ℕ) → Apart c k → length (round c k) ≡ k + 1
-round_length c k a = length-take-le (k + 1) c (omega (arith, a.long, a.short))
-
-pub round_once : (c : List ℕ) (k : ℕ) → Apart c k → once (round c k) ≡ true
-round_once c k a =
-    let n = round_length c k a in
-    once_from (round c k) (λ i j h g e. a.apart i j (omega (arith, n)) (omega (arith, n)) (sym (get_or-take (k + 1) c i 0 (omega (arith, n))) ∙ e ∙ get_or-take (k + 1) c j 0 (omega (arith, n))))
+pub apart_once : (c : List ℕ) → Apart c → once c ≡ true
+apart_once c a = once_from c a.apart
 
 -- ---- a chain of debts that closes is a ring, once its least debt is known
-pub rounds_ringed : (ls : List Line) (c : List ℕ) (k : ℕ) → Rounds ls c k → Ringed ls (round c k)
-rounds_ringed ls c k r x y e =
-    let a = r.different in
-    go (steps_place c k x y (omega (arith, a.long, a.short)) e)
+pub rounds_ringed : (ls : List Line) (c : List ℕ) → Rounds ls c → Ringed ls c
+rounds_ringed ls c r x y e = go (steps_place c x y e)
   where
-    go : (i : ℕ) × (i ≤ k) × (get_or c i 0 ≡ x) × (after c k i ≡ y) → DebtStep ls x y
+    k : ℕ
+    k = length c - 1
+
+    n : length c ≡ k + 1
+    n = omega (arith, r.three)
+
+    go : (i : ℕ) × (i < length c) × (get_or c i 0 ≡ x) × (after c i ≡ y) → DebtStep ls x y
     go p = subst₂ (λ (u v : ℕ). DebtStep ls u v) p.2 p.3 (at (cases_eq p.0 k))
       where
-        at : (p.0 ≡ k) ⊎ (p.0 ≡ k → ⊥) → DebtStep ls (get_or c p.0 0) (after c k p.0)
-        at (inl h) = subst (λ (n : ℕ). DebtStep ls (get_or c n 0) (after c k n)) (sym h) (subst (λ (n : ℕ). DebtStep ls (get_or c k 0) n) (sym (after_last c k)) r.closing)
+        at : (p.0 ≡ k) ⊎ (p.0 ≡ k → ⊥) → DebtStep ls (get_or c p.0 0) (after c p.0)
+        at (inl h) = subst (λ (i : ℕ). DebtStep ls (get_or c i 0) (after c i)) (sym h) (subst (λ (m : ℕ). DebtStep ls (get_or c k 0) m) (sym (after_last c k n)) r.closing)
         at (inr d) =
-            let lt : p.0 < k = omega (arith, d, p.1) in
-            subst (λ (n : ℕ). DebtStep ls (get_or c p.0 0) n) (sym (after_inner c k p.0 lt)) (r.linked p.0 lt)
+            let lt : p.0 + 1 < length c = omega (arith, d, p.1, n) in
+            subst (λ (m : ℕ). DebtStep ls (get_or c p.0 0) m) (sym (after_inner c p.0 lt)) (r.linked p.0 lt)
 
 pub under_step : (ms : List ℕ) (v : ℤ) (l : Line) (x y : ℕ) → l.a < l.b → Under ms v l → pos 0 <ℤ line_owes x y l → on x y (steps ms) ≡ true → v ≤ℤ line_owes x y l
 under_step ms v l x y h u o e = go (owes_cases x y l o)

@@ -1,3 +1,4 @@
 pub mod Rings
 pub mod Steps
 pub mod Rounds
+pub mod Parties

@@ -1,40 +1,30 @@
 -- Chains of debts that close to a ring, and lines that no ring leads over.
-use Rattle.std.specs.Prelude.{◌≡◌, ℕ, ◌+◌, ◌<◌, ◌≤◌, true, ◌⊎◌, List, length, take, ℤ, pos, neg_ℤ, ◌≤ℤ◌, ◌<ℤ◌, ◌==◌, ◌≢◌, slice_index, slice_index_or}
+use Rattle.std.specs.Prelude.{◌≡◌, ℕ, ◌+◌, ◌-◌, ◌<◌, ◌≤◌, true, ◌⊎◌, List, length, Some, None, Option, ℤ, pos, neg_ℤ, ◌≤ℤ◌, ◌<ℤ◌, ◌==◌, ◌≢◌, slice_index, slice_index_or}
+use Rattle.std.specs.Option.{option_eq}
 use Rattle.credit.specs.declared.line.Line.{Line}
 use Rattle.credit.specs.Net.{no_line}
-use Rattle.rings.specs.declared.ring.Ring.{Ring}
 use Rattle.rings.specs.Rings.{line_owes, steps, on, Cancels}
 use Rattle.rings.specs.Steps.{DebtStep}
 
--- the members of a chain of k steps
-abbrev pub round : List ℕ → ℕ → List ℕ
-round c k = take (k + 1) c
-
--- the first k + 1 entries are members, none of them twice
-pub record Apart (c : List ℕ) (k : ℕ) : Type 0 where
-  pub long : length c ≡ 64
-  pub short : k < 64
-  pub members : (i : ℕ) → i ≤ k → slice_index c i < 64
-  pub apart : (i j : ℕ) → i ≤ k → j ≤ k → slice_index c i ≡ slice_index c j → i ≡ j
+-- members, none of them twice
+pub record Apart (c : List ℕ) : Type 0 where
+  pub members : (i : ℕ) → i < length c → slice_index c i < 64
+  pub apart : (i j : ℕ) → i < length c → j < length c → slice_index c i ≡ slice_index c j → i ≡ j
 
 -- each of three members or more owes the next, and the last owes the first
-pub record Rounds (ls : List Line) (c : List ℕ) (k : ℕ) : Type 0 where
-  pub three : 2 ≤ k
-  pub different : Apart c k
-  pub linked : (i : ℕ) → i < k → DebtStep ls (slice_index c i) (slice_index c (i + 1))
-  pub closing : DebtStep ls (slice_index c k) (slice_index c 0)
+pub record Rounds (ls : List Line) (c : List ℕ) : Type 0 where
+  pub three : 3 ≤ length c
+  pub different : Apart c
+  pub linked : (i : ℕ) → i + 1 < length c → DebtStep ls (slice_index c i) (slice_index c (i + 1))
+  pub closing : DebtStep ls (slice_index c (length c - 1)) (slice_index c 0)
 
 -- such members, the last of whom owes the first on line i
-abbrev pub RoundOver : List Line → ℕ → List ℕ → ℕ → Type 0
-RoundOver ls i c k = Rounds ls c k × (pos 0 <ℤ line_owes (slice_index c k) (slice_index c 0) (slice_index_or ls i no_line))
+abbrev pub RoundOver : List Line → ℕ → List ℕ → Type 0
+RoundOver ls i c = Rounds ls c × (pos 0 <ℤ line_owes (slice_index c (length c - 1)) (slice_index c 0) (slice_index_or ls i no_line))
 
 -- a table of whom each member owes on the ring; who is not on it owes nobody
-abbrev pub Links : List ℕ → List ℕ → Type 0
-Links next ms = (x y : ℕ) → x < 64 → y < 64 → (slice_index next x == y) ≡ on x y (steps ms)
-
--- who stands on the ring
-abbrev pub party : Ring → List ℕ
-party r = round r.chain.members r.chain.steps
+abbrev pub Links : List (Option ℕ) → List ℕ → Type 0
+Links next ms = (x y : ℕ) → x < 64 → y < 64 → option_eq (λ m n. m == n) (slice_index_or next x None) (Some y) ≡ on x y (steps ms)
 
 -- v is at most what is owed on the line along the steps of a ring
 abbrev pub Under : List ℕ → ℤ → Line → Type 0

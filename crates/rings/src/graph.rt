@@ -1,63 +1,62 @@
-ghost use Rattle.std.specs.Prelude.{◌≡◌, ℕ, ◌<◌, true, ◌⊎◌, pos, ◌<ℤ◌};
+ghost use Rattle.std.specs.Prelude.{◌≡◌, ℕ, ◌<◌, true, ◌⊎◌, pos, ◌<ℤ◌, MatchOption};
+ghost use Rattle.credit.specs.Sums.{every};
+ghost use Rattle.credit.specs.Net.{bounded};
 ghost use Rattle.search.specs.Answers.{Searched};
 ghost use Rattle.search.specs.Rowed.{reaches};
 ghost use Rattle.rings.specs.Rings.{line_owes};
 ghost use Rattle.rings.specs.Steps.{DebtStep};
 
 use credit::line::Line;
-use members::group::Group;
 use search::breadth_first::search;
-use search::graph::Graph;
-use search::reach::Reach;
+use search::chain::{Chain, NoChain};
 use search::rows::Rows;
 
-// The graph of debts: a step leads from each debtor to the creditor. Built once for each search.
+// Who owes whom on a line.
 #[derive(Clone, Copy)]
-pub struct DebtGraph {
-    rows: Rows,
+pub(crate) struct Debt {
+    pub(crate) debtor: u32,
+    pub(crate) creditor: u32,
 }
 
-impl DebtGraph {
-    // The graph of the debts on these lines.
-    pub(crate) fn new(lines: &[Line]) -> DebtGraph
-        ensures sound { (m n : ℕ) → reaches result.rows m n ≡ true → DebtStep lines.now m n }
-        ensures complete { (m n : ℕ) → m < 64 → n < 64 → DebtStep lines.now m n → reaches result.rows m n ≡ true }
-    {
-        let mut rows = Rows::new();
-        for line in lines {
-            add_debt(&mut rows, *line);
-        }
-        DebtGraph { rows }
-    }
-}
-
-impl Graph for DebtGraph {
-    ghost steps = { λ graph m n. reaches graph.rows m n ≡ true };
-
-    fn reached(&self, from: u32) -> Group {
-        self.rows.reached(from)
-    }
-}
-
-// Adds the step from the debtor of a line to its creditor. Nobody owes itself.
-fn add_debt(rows: &mut Rows, line: Line)
-    ensures old { (m n : ℕ) → reaches rows.old m n ≡ true → reaches rows.new m n ≡ true }
-    ensures new { (m n : ℕ) → m < 64 → n < 64 → pos 0 <ℤ line_owes m n line → reaches rows.new m n ≡ true }
-    ensures only { (m n : ℕ) → reaches rows.new m n ≡ true → (reaches rows.old m n ≡ true) ⊎ (pos 0 <ℤ line_owes m n line) }
+// Who owes whom on a line, or None where its debt is 0.
+pub(crate) fn debt_of(line: Line) -> Option<Debt>
+    requires { bounded line ≡ true }
+    ensures { MatchOption result (line.debt ≡ pos 0) (λ d. pos 0 <ℤ line_owes d.debtor d.creditor line) }
 {
-    if line.a != line.b {
-        if line.debt > 0 {
-            rows.add(line.b, line.a);
-        } else if line.debt < 0 {
-            rows.add(line.a, line.b);
-        }
+    if line.debt > 0 {
+        Some(Debt {
+            debtor: line.b,
+            creditor: line.a,
+        })
+    } else if line.debt < 0 {
+        Some(Debt {
+            debtor: line.a,
+            creditor: line.b,
+        })
+    } else {
+        None
     }
 }
 
-// A shortest chain from debtors to creditors, or a group that owes nobody outside it; None where start or goal is no
-// member.
-pub(crate) fn chain_of_debts(lines: &[Line], start: u32, goal: u32) -> Option<Reach>
+// The graph of the debts on these lines: a step leads from each debtor to the creditor. Built once for each search.
+fn debts(lines: &[Line]) -> Rows
+    requires { every bounded lines.now ≡ true }
+    ensures sound { (m n : ℕ) → reaches result m n ≡ true → DebtStep lines.now m n }
+    ensures complete { (m n : ℕ) → m < 64 → n < 64 → DebtStep lines.now m n → reaches result m n ≡ true }
+{
+    let mut rows = Rows::new();
+    for line in lines {
+        if let Some(debt) = debt_of(*line) {
+            rows.add(debt.debtor, debt.creditor);
+        }
+    }
+    rows
+}
+
+// A shortest chain from debtors to creditors.
+pub(crate) fn chain_of_debts(lines: &[Line], start: u32, goal: u32) -> Result<Chain, NoChain>
+    requires { every bounded lines.now ≡ true }
     ensures { Searched (DebtStep lines.now) start goal result }
 {
-    search(&DebtGraph::new(lines), start, goal)
+    search(&debts(lines), start, goal)
 }

@@ -1,57 +1,58 @@
-ghost use Rattle.std.specs.Prelude.{◌≡◌, ◌+◌, ◌<◌, true, ◌⊎◌, pos, ◌+ℤ◌, ◌-ℤ◌, ◌≤ℤ◌};
+ghost use Rattle.std.specs.Prelude.{◌≡◌, ◌<◌, ◌≤◌, true, ◌⊎◌, length, pos, ◌+ℤ◌, ◌-ℤ◌, ◌≤ℤ◌};
 ghost use Rattle.credit.specs.Sums.{every, only};
 ghost use Rattle.credit.specs.Net.{bounded};
 ghost use Rattle.credit.specs.Plans.{with_debt};
 ghost use Rattle.credit.specs.Pairs.{distinct};
 ghost use Rattle.rings.specs.Rings.{steps as steps_of, on, Ring as RingOf, cancel as cancelled};
-ghost use Rattle.rings.specs.Rounds.{round, party, Apart, Rounds, Links, Under, Met};
+ghost use Rattle.rings.specs.Rounds.{Apart, Rounds, Links, Under, Met};
 
 use credit::line::Line;
-use search::reach::Chain;
-
-// What the table of creditors holds for who is not on the ring.
-const NOBODY: u32 = 64;
+use search::chain::Chain;
 
 // The most that anybody may owe on a line.
 const MOST: i32 = 1_000_000;
 
 // A ring: each member of the chain owes the next, and the last owes the first.
-#[derive(Clone, Copy)]
+#[derive(Drop)]
 pub struct Ring {
     chain: Chain,
     // whom each member owes on the ring
-    creditors: [u32; 64],
+    creditors: [Option<u32>; 64],
+
+    ghost table: { Links creditors chain.members.items },
 }
 
 impl Ring {
+    ghost use Rattle.rings.specs.Parties.{party};
+
     // The ring that a chain of different members closes to.
     fn new(chain: Chain) -> Ring
-        requires { Apart chain.members chain.steps }
-        ensures same { result.chain ≡ chain }
-        ensures links { Links result.creditors (party result) }
+        requires three { 3 ≤ length chain.members.items }
+        requires apart { Apart chain.members.items }
+        ensures { result.chain ≡ chain }
     {
-        let mut creditors = [NOBODY; 64];
-        for i in 0..chain.steps {
-            creditors[chain.members[i] as usize] = chain.members[i + 1];
+        let mut creditors = [None; 64];
+        for step in chain.members.windows(2) {
+            creditors[step[0] as usize] = Some(step[1]);
         }
-        creditors[chain.members[chain.steps] as usize] = chain.members[0];
+        if let [first, .., last] = chain.members.as_slice() {
+            creditors[*last as usize] = Some(*first);
+        }
         Ring { chain, creditors }
     }
 
     // Whether a step of the ring leads from a debtor to a creditor.
     fn leads(&self, debtor: u32, creditor: u32) -> bool
-        requires table { Links self.now.creditors (party self.now) }
         requires debtor { debtor < 64 }
         requires creditor { creditor < 64 }
         ensures { result ≡ on debtor creditor (steps_of (party self.now)) }
     {
-        self.creditors[debtor as usize] == creditor
+        self.creditors[debtor as usize] == Some(creditor)
     }
 
     // The lesser of an amount and of what is owed on a line along the ring.
     fn least_on(&self, line: Line, amount: i32) -> i32
-        requires table { Links self.now.creditors (party self.now) }
-        requires bounds { bounded line ≡ true }
+        requires { bounded line ≡ true }
         ensures most { result ≤ℤ amount }
         ensures under { Under (party self.now) result line }
         ensures met { (result ≡ amount) ⊎ Met (party self.now) result line }
@@ -62,8 +63,7 @@ impl Ring {
 
     // The least that is owed on a step of the ring.
     fn least(&self, lines: &[Line]) -> i32
-        requires table { Links self.now.creditors (party self.now) }
-        requires rounds { Rounds lines.now self.now.chain.members self.now.chain.steps }
+        requires rounds { Rounds lines.now self.now.chain.members.items }
         requires bounds { every bounded lines.now ≡ true }
         requires pairs { distinct lines.now ≡ true }
         ensures ring { RingOf lines.now (party self.now) result }
@@ -77,14 +77,12 @@ impl Ring {
     }
 
     // A line once what is owed on it along the ring has fallen.
-    fn lowered(&self, line: Line, by: i32) -> Line
-        requires table { Links self.now.creditors (party self.now) }
+    fn lowered(&self, mut line: Line, by: i32) -> Line
         requires bounds { bounded line ≡ true }
         requires some { pos 0 ≤ℤ by }
         requires most { by ≤ℤ pos 1000000 }
         ensures { result ≡ with_debt line ((line.debt -ℤ only (on line.b line.a (steps_of (party self.now))) by) +ℤ only (on line.a line.b (steps_of (party self.now))) by) }
     {
-        let mut line = line;
         line.debt -= part(self.leads(line.b, line.a), by);
         line.debt += part(self.leads(line.a, line.b), by);
         line
@@ -92,15 +90,14 @@ impl Ring {
 
     // Lowers each debt on the ring.
     fn lower(&self, lines: &mut [Line], by: i32)
-        requires table { Links self.now.creditors (party self.now) }
-        requires apart { Apart self.now.chain.members self.now.chain.steps }
+        requires apart { Apart (party self.now) }
         requires bounds { every bounded lines.old ≡ true }
         requires some { pos 0 ≤ℤ by }
         requires most { by ≤ℤ pos 1000000 }
         ensures { lines.new ≡ cancelled (steps_of (party self.now)) by lines.old }
     {
-        for i in 0..lines.len() {
-            lines[i] = self.lowered(lines[i], by);
+        for line in lines.iter_mut() {
+            *line = self.lowered(*line, by);
         }
     }
 }
@@ -111,11 +108,7 @@ fn lesser(on_ring: bool, owed: i32, amount: i32) -> i32
     ensures under { on_ring ≡ true → result ≤ℤ owed }
     ensures met { (result ≡ amount) ⊎ ((on_ring ≡ true) × (result ≡ owed)) }
 {
-    if on_ring && owed < amount {
-        owed
-    } else {
-        amount
-    }
+    if on_ring { amount.min(owed) } else { amount }
 }
 
 // The amount where the test holds, else 0.
@@ -127,11 +120,11 @@ fn part(test: bool, amount: i32) -> i32
 
 // Lowers each debt on the ring that a chain of debts closes to by the least of them, and answers by how much.
 pub(crate) fn cancel(lines: &mut [Line], chain: Chain) -> i32
-    requires rounds { Rounds lines.old chain.members chain.steps }
+    requires rounds { Rounds lines.old chain.members.items }
     requires bounds { every bounded lines.old ≡ true }
     requires pairs { distinct lines.old ≡ true }
-    ensures ring { RingOf lines.old (round chain.members chain.steps) result }
-    ensures lowered { lines.new ≡ cancelled (steps_of (round chain.members chain.steps)) result lines.old }
+    ensures ring { RingOf lines.old chain.members.items result }
+    ensures lowered { lines.new ≡ cancelled (steps_of chain.members.items) result lines.old }
 {
     let ring = Ring::new(chain);
     let by = ring.least(lines);

@@ -4,6 +4,7 @@ use lib.Signed.{le_z}
 use Rattle.std.proofs.lemmas.Bool.Decides.{nat_tests}
 use Rattle.std.proofs.lemmas.Bool.{and_parts, not-false, ltb-true, leb-true, eqb-false, ne_eqb, le-leb}
 use Rattle.credit.specs.declared.line.Line.{Line}
+use Rattle.credit.specs.declared.payment.Payment.{Payment}
 use Rattle.credit.specs.declared.refusal.Refusal.TheVariants.{NoSuchMember, SameMember, OutOfRange, BadPlanSheet}
 use Rattle.credit.specs.Refusals.{passes, check}
 use Rattle.credit.specs.Sums.{every}
@@ -13,34 +14,34 @@ use Rattle.credit.proofs.Bounds.{le_z_order, le_z_test}
 use Rattle.credit.proofs.Tables.{check_passes}
 use Rattle.routing.specs.Meaning.{router_checks, usable, not_members, not_amount}
 
-pub record Passed (ls : List Line) (p q : ℕ) (n : ℤ) (xs : List ℤ) : Type 0 where
-  pub payer : p < 64
-  pub payee : q < 64
-  pub apart : p ≢ q
-  pub low : pos 1 ≤ℤ n
-  pub high : n ≤ℤ pos 1000000
+pub record Passed (ls : List Line) (pay : Payment) (xs : List ℤ) : Type 0 where
+  pub payer : pay.payer < 64
+  pub payee : pay.payee < 64
+  pub apart : pay.payer ≢ pay.payee
+  pub low : pos 1 ≤ℤ pay.amount
+  pub high : pay.amount ≤ℤ pos 1000000
   pub few : length ls ≤ 256
   pub sound : every bounded ls ≡ true
   pub long : length ls ≤ length xs
   pub fit : fits ls xs ≡ true
 
-pub passed_facts : (ls : List Line) (p q : ℕ) (n : ℤ) (xs : List ℤ) → router_checks ls p q n xs ≡ passes → Passed ls p q n xs
-passed_facts ls p q n xs h =
-    let a = check_passes (not_members p q) NoSuchMember _ h in
-    let b = check_passes (eqb p q) SameMember _ a.1 in
-    let c = check_passes (not_amount n) OutOfRange _ b.1 in
+pub passed_facts : (ls : List Line) (pay : Payment) (xs : List ℤ) → router_checks ls pay xs ≡ passes → Passed ls pay xs
+passed_facts ls pay xs h =
+    let a = check_passes (not_members pay.payer pay.payee) NoSuchMember _ h in
+    let b = check_passes (eqb pay.payer pay.payee) SameMember _ a.1 in
+    let c = check_passes (not_amount pay.amount) OutOfRange _ b.1 in
     let d = check_passes (not (usable ls xs)) BadPlanSheet _ c.1 in
-    let m = and_parts (ltb p 64) (ltb q 64) (not-false _ a.0) in
-    let r = and_parts (le_z (pos 1) n) (le_z n (pos 1000000)) (not-false _ c.0) in
+    let m = and_parts (ltb pay.payer 64) (ltb pay.payee 64) (not-false _ a.0) in
+    let r = and_parts (le_z (pos 1) pay.amount) (le_z pay.amount (pos 1000000)) (not-false _ c.0) in
     let u = and_parts (leb (length ls) 256) _ (not-false _ d.0) in
     let v = and_parts (every bounded ls) _ u.1 in
     let w = and_parts (leb (length ls) (length xs)) (fits ls xs) v.1 in
     record {
-      payer = ltb-true p 64 m.0;
-      payee = ltb-true q 64 m.1;
-      apart = eqb-false p q b.0;
-      low = le_z_order (pos 1) n r.0;
-      high = le_z_order n (pos 1000000) r.1;
+      payer = ltb-true pay.payer 64 m.0;
+      payee = ltb-true pay.payee 64 m.1;
+      apart = eqb-false pay.payer pay.payee b.0;
+      low = le_z_order (pos 1) pay.amount r.0;
+      high = le_z_order pay.amount (pos 1000000) r.1;
       few = leb-true (length ls) 256 u.0;
       sound = v.0;
       long = leb-true (length ls) (length xs) w.0;
@@ -56,10 +57,10 @@ amount_from n h k = rw (h, k)
 four : (a b c d : Bool) → a ≡ true → b ≡ true → c ≡ true → d ≡ true → not (a && (b && (c && d))) ≡ false
 four a b c d h k l m = rw (h, k, l, m)
 
-pub passed_from : (ls : List Line) (p q : ℕ) (n : ℤ) (xs : List ℤ) → Passed ls p q n xs → router_checks ls p q n xs ≡ passes
-passed_from ls p q n xs f =
+pub passed_from : (ls : List Line) (pay : Payment) (xs : List ℤ) → Passed ls pay xs → router_checks ls pay xs ≡ passes
+passed_from ls pay xs f =
     let u = four (leb (length ls) 256) (every bounded ls) (leb (length ls) (length xs)) (fits ls xs) (le-leb _ _ f.few) f.sound (le-leb _ _ f.long) f.fit in
-    ap (λ t. check t NoSuchMember (check (eqb p q) SameMember (check (not_amount n) OutOfRange (check (not (usable ls xs)) BadPlanSheet passes)))) (members_from_lem p q f.payer f.payee)
-    ∙ ap (λ t. check t SameMember (check (not_amount n) OutOfRange (check (not (usable ls xs)) BadPlanSheet passes))) (ne_eqb p q f.apart)
-    ∙ ap (λ t. check t OutOfRange (check (not (usable ls xs)) BadPlanSheet passes)) (amount_from n (le_z_test (pos 1) n f.low) (le_z_test n (pos 1000000) f.high))
+    ap (λ t. check t NoSuchMember (check (eqb pay.payer pay.payee) SameMember (check (not_amount pay.amount) OutOfRange (check (not (usable ls xs)) BadPlanSheet passes)))) (members_from_lem pay.payer pay.payee f.payer f.payee)
+    ∙ ap (λ t. check t SameMember (check (not_amount pay.amount) OutOfRange (check (not (usable ls xs)) BadPlanSheet passes))) (ne_eqb pay.payer pay.payee f.apart)
+    ∙ ap (λ t. check t OutOfRange (check (not (usable ls xs)) BadPlanSheet passes)) (amount_from pay.amount (le_z_test (pos 1) pay.amount f.low) (le_z_test pay.amount (pos 1000000) f.high))
     ∙ ap (λ t. check t BadPlanSheet passes) u

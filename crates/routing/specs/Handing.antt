@@ -1,7 +1,8 @@
 -- What the inner call of Direct says, which has the router below find the rest.
-use Rattle.std.specs.Prelude.{◌≡◌, ℕ, List, ℤ, ◌+ℤ◌, Ok, Err, ◌≢◌, slice_set}
+use Rattle.std.specs.Prelude.{◌≡◌, List, ℤ, ◌+ℤ◌, Ok, Err, ◌≢◌, slice_set}
 use Rattle.members.specs.declared.group.Group.{Group}
 use Rattle.credit.specs.declared.line.Line.{Line}
+use Rattle.credit.specs.declared.payment.Payment.{Payment}
 use Rattle.credit.specs.declared.refusal.Refusal.{Refusal}
 use Rattle.credit.specs.declared.refusal.Refusal.TheVariants.{WantOfRoom}
 use Rattle.credit.specs.Refusals.{Verdict, passes}
@@ -21,5 +22,5 @@ abbrev pub Answered : Verdict → List ℤ → Share → Verdict → List ℤ �
 Answered (Ok u) left s r exit = (r ≡ passes) × (exit ≡ left)
 Answered (Err e) left s r exit = (f : Refusal) × Wider e s.part f × (r ≡ Err f) × (exit ≡ slice_set left s.place s.before)
 
-abbrev pub Handed : List Line → (p q : ℕ) → ℤ → Share → List ℤ → Verdict → List ℤ → Type 0
-Handed ls p q rest s given r exit = (v : Verdict) × (left : List ℤ) × Routes ls p q rest given v left × Answered v left s r exit
+abbrev pub Handed : List Line → (rest : Payment) → Share → List ℤ → Verdict → List ℤ → Type 0
+Handed ls rest s given r exit = (v : Verdict) × (left : List ℤ) × Routes ls rest given v left × Answered v left s r exit

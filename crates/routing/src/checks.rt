@@ -3,22 +3,31 @@ ghost use Rattle.credit.specs.Refusals.{passes};
 ghost use Rattle.credit.specs.Sums.{every};
 ghost use Rattle.credit.specs.Net.{bounded};
 ghost use Rattle.credit.specs.Plans.{moved, roomy, fits};
-ghost use Rattle.routing.specs.Meaning.{payment, usable, router_checks};
+ghost use Rattle.routing.specs.Meaning.{pair_checks, payment_checks, usable, router_checks};
 
 use credit::line::Line;
+use credit::payment::Payment;
 use credit::refusal::Refusal;
 
-// Members and amount of a payment: passed, or the first refusal that applies.
-pub fn checked(payer: u32, payee: u32, amount: i32) -> Result<(), Refusal>
-    ensures { result ≡ payment payer payee amount passes }
+// Two members: passed, or the first refusal that applies.
+pub fn pair(first: u32, second: u32) -> Result<(), Refusal>
+    ensures { result ≡ pair_checks first second }
 {
-    if payer >= 64 || payee >= 64 {
+    if first >= 64 || second >= 64 {
         return Err(Refusal::NoSuchMember);
     }
-    if payer == payee {
+    if first == second {
         return Err(Refusal::SameMember);
     }
-    if amount < 1 || amount > 1_000_000 {
+    Ok(())
+}
+
+// Members and amount of a payment: passed, or the first refusal that applies.
+pub fn checked(payment: Payment) -> Result<(), Refusal>
+    ensures { result ≡ payment_checks payment passes }
+{
+    pair(payment.payer, payment.payee)?;
+    if payment.amount < 1 || payment.amount > 1_000_000 {
         return Err(Refusal::OutOfRange);
     }
     Ok(())
@@ -43,12 +52,10 @@ fn all_fit(lines: &[Line], plan: &[i32]) -> bool
     requires { length lines.now ≤ length plan.now }
     ensures { result ≡ (every bounded lines.now && fits lines.now plan.now) }
 {
-    for i in 0..lines.len() {
-        if !is_sound(&lines[i], plan[i]) {
-            return false;
-        }
-    }
-    true
+    lines
+        .iter()
+        .zip(plan)
+        .all(|(line, planned)| is_sound(line, *planned))
 }
 
 // Lines and plan that a router takes.
@@ -59,16 +66,10 @@ fn is_usable(lines: &[Line], plan: &[i32]) -> bool
 }
 
 // What a router is given: passed, or the first refusal that applies.
-pub fn admitted(
-    lines: &[Line],
-    payer: u32,
-    payee: u32,
-    amount: i32,
-    plan: &[i32],
-) -> Result<(), Refusal>
-    ensures { result ≡ router_checks lines.now payer payee amount plan.now }
+pub fn admitted(lines: &[Line], payment: Payment, plan: &[i32]) -> Result<(), Refusal>
+    ensures { result ≡ router_checks lines.now payment plan.now }
 {
-    checked(payer, payee, amount)?;
+    checked(payment)?;
     if !is_usable(lines, plan) {
         return Err(Refusal::BadPlanSheet);
     }

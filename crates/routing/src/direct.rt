@@ -1,17 +1,20 @@
 ghost use Rattle.std.specs.Prelude.{◌≡◌, ◌<◌, true, length, ℤ, pos, ◌+ℤ◌, ◌≤ℤ◌, slice_set};
 ghost use Rattle.std.specs.Int.{int_min};
+ghost use Rattle.std.specs.List.{position};
 ghost use Rattle.members.specs.declared.group.Group.{Group as Members};
 ghost use Rattle.credit.specs.declared.refusal.Refusal.TheVariants.{WantOfRoom};
 ghost use Rattle.credit.specs.Refusals.{passes};
 ghost use Rattle.credit.specs.Net.{bounded};
+ghost use Rattle.credit.specs.Pairs.{joins};
 ghost use Rattle.credit.specs.Plans.{moved, roomy};
 ghost use Rattle.routing.specs.Meaning.{router_checks, Finds, Routes};
-ghost use Rattle.routing.specs.Direct.{joining_from, share_on, direct_share, Shared, Directs};
+ghost use Rattle.routing.specs.Direct.{share_on, direct_share, Shared, Directs};
 ghost use Rattle.routing.specs.Handing.{Wider, Stays, Handed};
 
 use crate::checks::admitted;
 use crate::router::Router;
 use credit::line::Line;
+use credit::payment::Payment;
 use credit::plan::planned_after;
 use credit::refusal::Refusal;
 
@@ -50,15 +53,12 @@ impl Share {
 }
 
 // The place of the first line that joins the two.
-fn joining(lines: &[Line], payer: u32, payee: u32) -> Option<usize>
-    ensures { result ≡ joining_from 0 payer payee lines.now }
+fn joining(lines: &[Line], payment: Payment) -> Option<usize>
+    ensures { result ≡ position (joins payment.payer payment.payee) lines.now }
 {
-    for (i, line) in lines.iter().enumerate() {
-        if line.joins(payer, payee) {
-            return Some(i);
-        }
-    }
-    None
+    lines
+        .iter()
+        .position(|line| line.joins(payment.payer, payment.payee))
 }
 
 // The amount, or the room where that is less.
@@ -66,44 +66,33 @@ fn at_most(amount: i32, room: i64) -> i32
     requires { pos 0 ≤ℤ room }
     ensures { result ≡ int_min amount room }
 {
-    if room < i64::from(amount) {
-        room as i32
-    } else {
-        amount
-    }
+    // no more than the amount: `try_from` would bring an error that cannot come
+    i64::from(amount).min(room) as i32
 }
 
 // What the line can carry for the payer.
-fn share_on(line: &Line, place: usize, payer: u32, amount: i32, planned: i32) -> Share
+fn share_on(line: &Line, place: usize, payment: Payment, planned: i32) -> Share
     requires sound { bounded line.now ≡ true }
     requires fit { roomy (moved line.now planned) ≡ true }
-    requires small { (pos 1 ≤ℤ amount) × (amount ≤ℤ pos 1000000) }
-    ensures { result ≡ share_on line.now place payer amount planned }
+    requires small { (pos 1 ≤ℤ payment.amount) × (payment.amount ≤ℤ pos 1000000) }
+    ensures { result ≡ share_on line.now place payment planned }
 {
-    let part = at_most(amount, line.room_from(planned, payer));
+    let part = at_most(payment.amount, line.room_from(planned, payment.payer));
     Share {
         place,
         before: planned,
-        after: planned_after(line, planned, payer, part),
+        after: planned_after(line, planned, payment.payer, part),
         part,
     }
 }
 
 // What goes on the first line that joins payer and payee.
-fn direct_share(lines: &[Line], payer: u32, payee: u32, amount: i32, plan: &[i32]) -> Option<Share>
-    requires { router_checks lines.now payer payee amount plan.now ≡ passes }
-    ensures { result ≡ direct_share lines.now payer payee amount plan.now }
+fn direct_share(lines: &[Line], payment: Payment, plan: &[i32]) -> Option<Share>
+    requires { router_checks lines.now payment plan.now ≡ passes }
+    ensures { result ≡ direct_share lines.now payment plan.now }
 {
-    let place = joining(lines, payer, payee)?;
-    Some(share_on(&lines[place], place, payer, amount, plan[place]))
-}
-
-// The room together with the direct part.
-fn with_part(room: i32, part: i32) -> i32
-    requires { ((room +ℤ part) ≤ℤ pos 1000000) × (pos 0 ≤ℤ part) }
-    ensures { result ≡ room +ℤ part }
-{
-    room + part
+    let place = joining(lines, payment)?;
+    Some(share_on(&lines[place], place, payment, plan[place]))
 }
 
 // The refusal with its room larger by the share's part; one for another reason stays.
@@ -116,7 +105,7 @@ fn widened(refusal: Refusal, share: Share) -> Refusal
     match refusal {
         Refusal::WantOfRoom { group, room } => Refusal::WantOfRoom {
             group,
-            room: with_part(room, share.part),
+            room: room + share.part,
         },
         other => other,
     }
@@ -135,18 +124,16 @@ impl<R: Router> Direct<R> {
     fn route_rest(
         &mut self,
         lines: &[Line],
-        payer: u32,
-        payee: u32,
-        rest: i32,
+        rest: Payment,
         share: Share,
         plan: &mut [i32],
     ) -> Result<(), Refusal>
-        requires checks { router_checks lines.now payer payee rest plan.old ≡ passes }
+        requires checks { router_checks lines.now rest plan.old ≡ passes }
         requires place { share.place < length plan.old }
-        requires part { (pos 0 ≤ℤ share.part) × ((share.part +ℤ rest) ≤ℤ pos 1000000) }
-        ensures { Handed lines.now payer payee rest share plan.old result plan.new }
+        requires part { (pos 0 ≤ℤ share.part) × ((share.part +ℤ rest.amount) ≤ℤ pos 1000000) }
+        ensures { Handed lines.now rest share plan.old result plan.new }
     {
-        match self.below.route(lines, payer, payee, rest, plan) {
+        match self.below.route(lines, rest, plan) {
             Ok(()) => Ok(()),
             Err(refusal) => {
                 share.take_back(plan);
@@ -156,24 +143,21 @@ impl<R: Router> Direct<R> {
     }
 
     // Past the checks: the share on the direct line, and the rest, if any, by the router below.
-    fn send(
-        &mut self,
-        lines: &[Line],
-        payer: u32,
-        payee: u32,
-        amount: i32,
-        plan: &mut [i32],
-    ) -> Result<(), Refusal>
-        requires { router_checks lines.now payer payee amount plan.old ≡ passes }
-        ensures finds { Finds lines.now payer payee amount plan.old result plan.new }
-        ensures shared { Shared (direct_share lines.now payer payee amount plan.old) lines.now payer payee amount plan.old result plan.new }
+    fn send(&mut self, lines: &[Line], payment: Payment, plan: &mut [i32]) -> Result<(), Refusal>
+        requires { router_checks lines.now payment plan.old ≡ passes }
+        ensures finds { Finds lines.now payment plan.old result plan.new }
+        ensures shared { Shared (direct_share lines.now payment plan.old) lines.now payment plan.old result plan.new }
     {
-        let Some(share) = direct_share(lines, payer, payee, amount, plan) else {
-            return self.below.route(lines, payer, payee, amount, plan);
+        let Some(share) = direct_share(lines, payment, plan) else {
+            return self.below.route(lines, payment, plan);
         };
         share.put(plan);
-        if share.part < amount {
-            self.route_rest(lines, payer, payee, amount - share.part, share, plan)
+        if share.part < payment.amount {
+            let rest = Payment {
+                amount: payment.amount - share.part,
+                ..payment
+            };
+            self.route_rest(lines, rest, share, plan)
         } else {
             Ok(())
         }
@@ -181,25 +165,19 @@ impl<R: Router> Direct<R> {
 }
 
 impl<R: Router> Router for Direct<R> {
-    fn route(
-        &mut self,
-        lines: &[Line],
-        payer: u32,
-        payee: u32,
-        amount: i32,
-        plan: &mut [i32],
-    ) -> Result<(), Refusal>
-        ensures routes { Routes lines.now payer payee amount plan.old result plan.new }
-        ensures directs { Directs lines.now payer payee amount plan.old result plan.new }
+    fn route(&mut self, lines: &[Line], payment: Payment, plan: &mut [i32]) -> Result<(), Refusal>
+        ensures routes { Routes lines.now payment plan.old result plan.new }
+        ensures directs { Directs lines.now payment plan.old result plan.new }
     {
-        admitted(lines, payer, payee, amount, plan)?;
-        self.send(lines, payer, payee, amount, plan)
+        admitted(lines, payment, plan)?;
+        self.send(lines, payment, plan)
     }
 }
 
 #[cfg(test)]
 mod tests {
     use super::*;
+    use members::group::Group;
     use std::test::Fail;
 
     const FAR: Line = Line {
@@ -218,17 +196,25 @@ mod tests {
         debt: 0,
     };
 
+    const FORTY: Payment = Payment {
+        payer: 1,
+        payee: 3,
+        amount: 40,
+    };
+
     // The direct line carries 1 of 40; where the rest is refused, the room is larger by 1 and the plan is as it was.
     #[test]
     fn taken_back(rt: HostRuntime) -> Result<(), Fail> {
         let mut plan = [0, 0];
-        let share = direct_share(&[FAR, NEAR], 1, 3, 40, &plan).ok_or("no line joins them")?;
+        let share = direct_share(&[FAR, NEAR], FORTY, &plan).ok_or("no line joins them")?;
         assert!(rt; share.place == 1 && share.part == 1);
         share.put(&mut plan);
         assert_eq!(rt; plan, [0, 1]);
         share.take_back(&mut plan);
         assert_eq!(rt; plan, [0, 0]);
-        assert_eq!(rt; with_part(30, share.part), 31);
+        let group = Group { bits: 2 };
+        let wider = widened(Refusal::WantOfRoom { group, room: 30 }, share);
+        assert_eq!(rt; wider, Refusal::WantOfRoom { group, room: 31 });
         Ok(())
     }
 }

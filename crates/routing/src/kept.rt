@@ -9,7 +9,9 @@ ghost use Rattle.routing.specs.Kept.{remembered, noted, refusal_by, recalled as 
 use crate::checks::admitted;
 use crate::memory::Memory;
 use crate::router::Router;
+use arrayvec::ArrayVec;
 use credit::line::Line;
+use credit::payment::Payment;
 use credit::refusal::Refusal;
 use credit::room::group_room;
 use members::group::Group;
@@ -19,8 +21,7 @@ impl Memory {
         ensures { remembered result ≡ [] }
     {
         Memory {
-            groups: [Group::empty(); 8],
-            count: 0,
+            groups: ArrayVec::new(),
         }
     }
 
@@ -28,58 +29,36 @@ impl Memory {
     fn note(&mut self, group: Group)
         ensures { remembered self.new ≡ noted group (remembered self.old) }
     {
-        self.groups.rotate_right(1);
-        self.groups[0] = group;
-        if self.count < 8 {
-            self.count += 1;
+        if self.groups.is_full() {
+            self.groups.pop();
         }
+        self.groups.insert(0, group);
     }
 
     // The refusal by the newest of the remembered groups that gives one.
-    fn recalled(
-        &self,
-        lines: &[Line],
-        payer: u32,
-        payee: u32,
-        amount: i32,
-        plan: &[i32],
-    ) -> Option<Refusal>
+    fn recalled(&self, lines: &[Line], payment: Payment, plan: &[i32]) -> Option<Refusal>
         requires few { length lines.now ≤ 256 }
         requires bounds { every bounded lines.now ≡ true }
         requires fit { fits lines.now plan.now ≡ true }
-        ensures value { result ≡ recalled_by lines.now payer payee amount plan.now (remembered self.now) }
-        ensures finds { IfSome result (λ e. Finds lines.now payer payee amount plan.now (Err e) plan.now) }
+        ensures value { result ≡ recalled_by lines.now payment plan.now (remembered self.now) }
+        ensures finds { IfSome result (λ e. Finds lines.now payment plan.now (Err e) plan.now) }
     {
-        recalled(
-            &self.groups[..self.count],
-            lines,
-            payer,
-            payee,
-            amount,
-            plan,
-        )
+        recalled(self.groups.as_slice(), lines, payment, plan)
     }
 }
 
 // The refusal by a group with the payer in, the payee out and too little room, counted with these lines and this plan.
-fn refusal_by(
-    group: Group,
-    lines: &[Line],
-    payer: u32,
-    payee: u32,
-    amount: i32,
-    plan: &[i32],
-) -> Option<Refusal>
+fn refusal_by(group: Group, lines: &[Line], payment: Payment, plan: &[i32]) -> Option<Refusal>
     requires few { length lines.now ≤ 256 }
     requires bounds { every bounded lines.now ≡ true }
     requires fit { fits lines.now plan.now ≡ true }
-    ensures { result ≡ refusal_by lines.now payer payee amount plan.now group }
+    ensures { result ≡ refusal_by lines.now payment plan.now group }
 {
-    if !group.holds(payer) || group.holds(payee) {
+    if !group.holds(payment.payer) || group.holds(payment.payee) {
         return None;
     }
     let room = group_room(lines, plan, group);
-    if room < amount {
+    if room < payment.amount {
         Some(Refusal::WantOfRoom { group, room })
     } else {
         None
@@ -87,22 +66,15 @@ fn refusal_by(
 }
 
 // The refusal by the first of the groups that gives one.
-fn recalled(
-    groups: &[Group],
-    lines: &[Line],
-    payer: u32,
-    payee: u32,
-    amount: i32,
-    plan: &[i32],
-) -> Option<Refusal>
+fn recalled(groups: &[Group], lines: &[Line], payment: Payment, plan: &[i32]) -> Option<Refusal>
     requires few { length lines.now ≤ 256 }
     requires bounds { every bounded lines.now ≡ true }
     requires fit { fits lines.now plan.now ≡ true }
-    ensures value { result ≡ recalled_by lines.now payer payee amount plan.now groups.now }
-    ensures finds { IfSome result (λ e. Finds lines.now payer payee amount plan.now (Err e) plan.now) }
+    ensures value { result ≡ recalled_by lines.now payment plan.now groups.now }
+    ensures finds { IfSome result (λ e. Finds lines.now payment plan.now (Err e) plan.now) }
 {
     for group in groups {
-        if let Some(refusal) = refusal_by(*group, lines, payer, payee, amount, plan) {
+        if let Some(refusal) = refusal_by(*group, lines, payment, plan) {
             return Some(refusal);
         }
     }
@@ -123,71 +95,45 @@ impl<R> Kept<R> {
         ensures below { result.below ≡ below }
         ensures memory { remembered result.memory ≡ [] }
     {
-        Kept {
-            below,
-            memory: Memory::new(),
-        }
+        let memory = Memory::new();
+        Kept { below, memory }
     }
 }
 
 impl<R: Router> Kept<R> {
     // Has the router below decide, and remembers the group that it names.
-    fn decide(
-        &mut self,
-        lines: &[Line],
-        payer: u32,
-        payee: u32,
-        amount: i32,
-        plan: &mut [i32],
-    ) -> Result<(), Refusal>
-        requires { router_checks lines.now payer payee amount plan.old ≡ passes }
-        ensures routes { Routes lines.now payer payee amount plan.old result plan.new }
+    fn decide(&mut self, lines: &[Line], payment: Payment, plan: &mut [i32]) -> Result<(), Refusal>
+        requires { router_checks lines.now payment plan.old ≡ passes }
+        ensures routes { Routes lines.now payment plan.old result plan.new }
         ensures notes { Notes result (remembered self.old.memory) (remembered self.new.memory) }
     {
-        match self.below.route(lines, payer, payee, amount, plan) {
-            Ok(()) => Ok(()),
-            Err(Refusal::WantOfRoom { group, room }) => {
-                self.memory.note(group);
-                Err(Refusal::WantOfRoom { group, room })
-            }
-            Err(other) => Err(other),
+        let answer = self.below.route(lines, payment, plan);
+        if let Err(Refusal::WantOfRoom { group, .. }) = answer {
+            self.memory.note(group);
         }
+        answer
     }
 
     // Past the checks: by a remembered group, or by the router below.
-    fn answer(
-        &mut self,
-        lines: &[Line],
-        payer: u32,
-        payee: u32,
-        amount: i32,
-        plan: &mut [i32],
-    ) -> Result<(), Refusal>
-        requires { router_checks lines.now payer payee amount plan.old ≡ passes }
-        ensures finds { Finds lines.now payer payee amount plan.old result plan.new }
-        ensures recalls { Recalls (recalled_by lines.now payer payee amount plan.old (remembered self.old.memory)) lines.now payer payee amount plan.old (remembered self.old.memory) result plan.new (remembered self.new.memory) }
+    fn answer(&mut self, lines: &[Line], payment: Payment, plan: &mut [i32]) -> Result<(), Refusal>
+        requires { router_checks lines.now payment plan.old ≡ passes }
+        ensures finds { Finds lines.now payment plan.old result plan.new }
+        ensures recalls { Recalls (recalled_by lines.now payment plan.old (remembered self.old.memory)) lines.now payment plan.old (remembered self.old.memory) result plan.new (remembered self.new.memory) }
     {
-        if let Some(refusal) = self.memory.recalled(lines, payer, payee, amount, plan) {
+        if let Some(refusal) = self.memory.recalled(lines, payment, plan) {
             return Err(refusal);
         }
-        self.decide(lines, payer, payee, amount, plan)
+        self.decide(lines, payment, plan)
     }
 }
 
 impl<R: Router> Router for Kept<R> {
-    fn route(
-        &mut self,
-        lines: &[Line],
-        payer: u32,
-        payee: u32,
-        amount: i32,
-        plan: &mut [i32],
-    ) -> Result<(), Refusal>
-        ensures routes { Routes lines.now payer payee amount plan.old result plan.new }
-        ensures keeps { Keeps lines.now payer payee amount plan.old (remembered self.old.memory) result plan.new (remembered self.new.memory) }
+    fn route(&mut self, lines: &[Line], payment: Payment, plan: &mut [i32]) -> Result<(), Refusal>
+        ensures routes { Routes lines.now payment plan.old result plan.new }
+        ensures keeps { Keeps lines.now payment plan.old (remembered self.old.memory) result plan.new (remembered self.new.memory) }
     {
-        admitted(lines, payer, payee, amount, plan)?;
-        self.answer(lines, payer, payee, amount, plan)
+        admitted(lines, payment, plan)?;
+        self.answer(lines, payment, plan)
     }
 }
 
@@ -203,6 +149,12 @@ mod tests {
         debt: 0,
     };
 
+    const ELEVEN: Payment = Payment {
+        payer: 1,
+        payee: 2,
+        amount: 11,
+    };
+
     // A remembered group refuses while it is too tight, and no more once its room has grown.
     #[test]
     fn counted_anew(rt: HostRuntime) {
@@ -210,14 +162,14 @@ mod tests {
         let group = Group { bits: 2 };
         memory.note(group);
         assert_eq!(rt;
-            memory.recalled(&[NARROW], 1, 2, 11, &[0]),
+            memory.recalled(&[NARROW], ELEVEN, &[0]),
             Some(Refusal::WantOfRoom { group, room: 10 })
         );
         let grown = Line {
             trust_b: 11,
             ..NARROW
         };
-        assert_eq!(rt; memory.recalled(&[grown], 1, 2, 11, &[0]), None);
+        assert_eq!(rt; memory.recalled(&[grown], ELEVEN, &[0]), None);
     }
 
     // The oldest of eight is forgotten when a ninth is named.
@@ -228,8 +180,8 @@ mod tests {
         for _ in 0..7 {
             memory.note(Group { bits: 4 });
         }
-        assert!(rt; memory.recalled(&[NARROW], 1, 2, 11, &[0]).is_some());
+        assert!(rt; memory.recalled(&[NARROW], ELEVEN, &[0]).is_some());
         memory.note(Group { bits: 4 });
-        assert_eq!(rt; memory.recalled(&[NARROW], 1, 2, 11, &[0]), None);
+        assert_eq!(rt; memory.recalled(&[NARROW], ELEVEN, &[0]), None);
     }
 }

@@ -1,11 +1,8 @@
-ghost use Rattle.std.specs.Prelude.{◌≤◌};
-
+use arrayvec::ArrayVec;
 use members::group::Group;
 
-// The last eight groups that were named, the newest first: they stand in the first places, as many as the count.
-#[derive(Clone, Copy)]
+// The last eight groups that were named, the newest first.
+#[derive(Drop)]
 pub struct Memory {
-    pub(crate) groups: [Group; 8],
-    pub(crate) count: usize,
-    ghost few: { count ≤ 8 },
+    pub(crate) groups: ArrayVec<Group, 8>,
 }

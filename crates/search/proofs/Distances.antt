@@ -49,6 +49,7 @@ pub record Searching (S : ℕ → ℕ → Type 0) (start goal level frontier see
       Has seen (get_or before n 0) × S (get_or before n 0) n × ((k : ℕ) × Dist S start (get_or before n 0) k × Dist S start n (suc k))
   pub small : Members before
   pub count : level < length (members_of seen)
+  pub few : level + 1 < 64
 
 module _ (S : ℕ → ℕ → Type 0) (start goal : ℕ) where
   pub starts : (none g : ℕ) (before : List ℕ) → start < 64 → (start ≡ goal → ⊥) → none ≡ 0 →
@@ -68,6 +69,7 @@ module _ (S : ℕ → ℕ → Type 0) (start goal : ℕ) where
         back = λ n y d. absurd (d (is-start n y));
         small = small;
         count = count_some g start l h;
+        few = omega arith;
       }
 
   module _ (level frontier seen : ℕ) (before : List ℕ) (s : Searching S start goal level frontier seen before) where
@@ -87,8 +89,8 @@ module _ (S : ℕ → ℕ → Type 0) (start goal : ℕ) where
 
     pub grows : (next both : ℕ) (new : List ℕ) → Grown S frontier seen goal before new next → next < 2 ^ 64 → (next ≡ 0 → ⊥) →
         ((n : ℕ) → inside both n ≡ (inside seen n || inside next n)) →
-        Searching S start goal (level + 1) next both new
-    grows next both new g ln ne is =
+        goal < 64 → Searching S start goal (level + 1) next both new
+    grows next both new g ln ne is lg =
         let old : (n : ℕ) → Has seen n → Has both n = union_left seen next both is in
         let fresh : (n : ℕ) → Has next n → Has both n = union_right seen next both is in
         let parts : (n : ℕ) → Has both n → Has seen n ⊎ Has next n = union_either seen next both is in
@@ -97,10 +99,11 @@ module _ (S : ℕ → ℕ → Type 0) (start goal : ℕ) where
         let new-at : (n : ℕ) → Has next n → Dist S start n (suc level) =
         λ n h. let f = g.from n h in farther (get_or new n 0) n (inside_below 64 next n ln h) f.0 f.1 (g.unseen n h) in
         let one = some_member next (let z : 0 < next = grind (arith, ne) in z) ln in
+        let goal-out : Has both goal → ⊥ = λ h. ⊎_elim s.goal_out g.lacks (parts goal h) in
         let more = count_more seen both old one.0 (has_not seen one.0 (g.unseen one.0 one.2)) (fresh one.0 one.2) one.1 in
         record {
           start_in = old start s.start_in;
-          goal_out = λ h. ⊎_elim s.goal_out g.lacks (parts goal h);
+          goal_out = goal-out;
           sub = fresh;
           at_level = λ n h. subst (λ x. Dist S start n x) (sym (add-one level)) (new-at n h);
           closed = λ m n l h no-m step. ⊎_elim (λ y. either m n l y step) (λ y. absurd (no-m y)) (parts m h);
@@ -118,6 +121,7 @@ module _ (S : ℕ → ℕ → Type 0) (start goal : ℕ) where
               ];
           small = g.small;
           count = omega (arith, s.count, more);
+          few = omega (arith, s.count, more, count_lacks both goal lg (has_not both goal goal-out));
         }
 
     -- no next level: what is seen is closed
@@ -128,10 +132,6 @@ module _ (S : ℕ → ℕ → Type 0) (start goal : ℕ) where
           outside = s.goal_out;
           closed = λ m n _ l h step. ⊎_elim (λ y. y) (λ y. absurd (has_none n (subst (λ x. Has x n) e y))) (reaches next new g m n l h step);
         }
-
-    -- the levels are few
-    pub fits : goal < 64 → level + 1 < 64
-    fits lg = omega (arith, s.count, count_lacks seen goal lg (has_not seen goal s.goal_out))
 
     -- the goal is met: the chain that leads back from it is a shortest one
     module _ (new : List ℕ) (met : Met S frontier seen goal before new) (lg : goal < 64) (c : List ℕ) (t : Traced new goal (level + 1) c) where
@@ -196,7 +196,7 @@ module _ (S : ℕ → ℕ → Type 0) (start goal : ℕ) where
       arrives =
           record {
             chain = record {
-              long = omega (arith, t.long, fits lg);
+              long = omega (arith, t.long);
               first = (dists 0 (omega arith)).walk;
               last = t.last;
               members = t.members;

@@ -1,69 +1,45 @@
 -- How a chain is written from its end back.
-use Rattle.std.proofs.Common.{◌≡◌, ℕ, zero, suc, ◌+◌, ◌<◌, ◌≤◌, ◌⊎◌, List, length, get_or, set, replicate, sym, refl, ap, ◌∙◌, subst, inl, inr, arith, length-set, get_or-set_other, get_or-set_same}
+use Rattle.std.proofs.Common.{◌≡◌, ℕ, zero, suc, ◌+◌, ◌<◌, ◌≤◌, List, [], ◌∷◌, ◌++◌, get_or, reverse, replicate, sym, refl, ap, add-one, arith}
+use Rattle.std.proofs.lemmas.List.{reverse-append}
 use Rattle.search.specs.Levels.{Members, Traced}
 
--- the entries from i on are written, and `at` is the one at i
-pub record Tracing (before : List ℕ) (goal k i at : ℕ) (c : List ℕ) : Type 0 where
-  pub long : length c ≡ 64
-  pub last : get_or c k 0 ≡ goal
-  pub here : get_or c i 0 ≡ at
-  pub low : i ≤ k
-  pub members : (j : ℕ) → i ≤ j → j ≤ k → get_or c j 0 < 64
-  pub back : (j : ℕ) → i ≤ j → j < k → get_or c j 0 ≡ get_or before (get_or c (j + 1) 0) 0
+-- c leads in k steps from `at` to the goal
+pub record Tracing (before : List ℕ) (goal k at : ℕ) (c : List ℕ) : Type 0 where
+  pub first : get_or c 0 0 ≡ at
+  pub small : at < 64
+  pub traced : Traced before goal k c
 
-eq_or_not : (a b : ℕ) → (a ≡ b) ⊎ (a ≡ b → ⊥)
-eq_or_not a b = grind arith
+module _ (before : List ℕ) (goal k at : ℕ) (c : List ℕ) (small : Members before) (t : Tracing before goal k at c) where
+  abbrev v : ℕ
+  v = get_or before at 0
 
-pub begun : (before : List ℕ) (goal k : ℕ) (c : List ℕ) → goal < 64 → k < 64 → length c ≡ 64 → Tracing before goal k k goal (set c k goal)
-begun before goal k c lg lk e =
-    let lt : k < length c = omega arith in
-    let q : get_or (set c k goal) k 0 ≡ goal = rw get_or-set_same in
-    record {
-      long = simp length-set e;
-      last = q;
-      here = q;
-      low = omega arith;
-      members = λ j a b. let z : k ≡ j = omega arith in subst (λ x. get_or (set c k goal) x 0 < 64) z (subst (λ x. x < 64) (sym q) lg);
-      back = λ j a b. absurd (omega arith);
-    }
+  above : (i : ℕ) → i ≤ k + 1 → get_or (v ∷ c) i 0 < 64
+  above zero h = small at t.small
+  above (suc i) h = t.traced.members i (omega arith)
 
-pub written : (before : List ℕ) (goal k j i at : ℕ) (c : List ℕ) → Members before → j ≡ i + 1 → Tracing before goal k j at c → k < 64 →
-    Tracing before goal k i (get_or before at 0) (set c i (get_or before at 0))
-written before goal k j' i at c small q t' lk =
-    let t = subst (λ x. Tracing before goal k x at c) q t' in
-    let lt : i < length c = omega (arith, t.long, t.low) in
-    let v = get_or before at 0 in
-    let at_i : get_or (set c i v) i 0 ≡ v = rw get_or-set_same in
-    let elsewhere : (j : ℕ) → (j ≡ i → ⊥) → get_or (set c i v) j 0 ≡ get_or c j 0 = λ j d. rw get_or-set_other in
-    let la : at < 64 = subst (λ x. x < 64) t.here (t.members (i + 1) (omega arith) t.low) in
-    record {
-      long = simp length-set t.long;
-      last = elsewhere k (λ e. omega (arith, t.low)) ∙ t.last;
-      here = at_i;
-      low = omega (arith, t.low);
-      members = λ j a b.
-          elim (eq_or_not j i) [
-            | inl e ↦ subst (λ x. get_or (set c i v) x 0 < 64) (sym e) (subst (λ x. x < 64) (sym at_i) (small at la))
-            | inr d ↦ subst (λ x. x < 64) (sym (elsewhere j d)) (t.members j (let z : i + 1 ≤ j = grind (arith, a, d) in z) b)
-          ];
-      back = λ j a b.
-          let next : get_or (set c i v) (j + 1) 0 ≡ get_or c (j + 1) 0 = elsewhere (j + 1) (λ e. omega arith) in
-          elim (eq_or_not j i) [
-            | inl e ↦
-                subst (λ x. get_or (set c i v) x 0 ≡ get_or before (get_or (set c i v) (x + 1) 0) 0) (sym e)
-                (at_i ∙ ap (λ x. get_or before x 0) (sym (elsewhere (i + 1) (λ q. omega arith) ∙ t.here)))
-            | inr d ↦ elsewhere j d ∙ t.back j (let z : i + 1 ≤ j = grind (arith, a, d) in z) b ∙ ap (λ x. get_or before x 0) (sym next)
-          ];
-    }
+  behind : (i : ℕ) → i < k + 1 → get_or (v ∷ c) i 0 ≡ get_or before (get_or (v ∷ c) (i + 1) 0) 0
+  behind zero h = ap (λ x. get_or before x 0) (sym t.first)
+  behind (suc i) h = rw (add-one (suc i)) (rw (add-one i) at (t.traced.back i (omega arith)))
 
-pub traced : (before : List ℕ) (goal k at : ℕ) (c : List ℕ) → Tracing before goal k 0 at c → Traced before goal k c
-traced before goal k at c t =
-    record { long = t.long; last = t.last; members = λ i l. t.members i (omega arith) l; back = λ i l. t.back i (omega arith) l }
+  written : Tracing before goal (k + 1) v (v ∷ c)
+  written =
+      record {
+        first = refl;
+        small = small at t.small;
+        traced = record {
+          long = omega (arith, t.traced.long);
+          last = rw add-one t.traced.last;
+          members = above;
+          back = behind;
+        };
+      }
 
-zeros : (k n : ℕ) → ◌≡◌ {A = ℕ} (get_or (replicate k 0) n 0) 0
-zeros zero n = refl
-zeros (suc k) zero = refl
-zeros (suc k) (suc n) = zeros k n
+-- one member more is written
+pub pushed : (before : List ℕ) (goal k at : ℕ) (xs : List ℕ) → Members before → Tracing before goal k at (reverse xs) →
+    Tracing before goal (k + 1) (get_or before at 0) (reverse (xs ++ get_or before at 0 ∷ []))
+pushed before goal k at xs small t = rw (reverse-append xs (get_or before at 0 ∷ [])) (written before goal k at (reverse xs) small t)
 
-pub none_yet : (k : ℕ) → (n : ℕ) → get_or (replicate k 0) n 0 < 64
-none_yet k n = subst (λ x. x < 64) (sym (zeros k n)) (omega arith)
+pub none_yet : (k n : ℕ) → get_or (replicate k 0) n 0 < 64
+none_yet zero n = omega arith
+none_yet (suc k) zero = omega arith
+none_yet (suc k) (suc n) = none_yet k n

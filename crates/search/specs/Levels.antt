@@ -27,9 +27,9 @@ abbrev pub Spread : (S : ℕ → ℕ → Type 0) (frontier seen goal : ℕ) (old
 Spread S frontier seen goal old new (Some next) = Grown S frontier seen goal old new next.bits
 Spread S frontier seen goal old new None = Met S frontier seen goal old new
 
--- c leads in k steps to the goal, each entry being the one that the next was reached from.
+-- c leads in k steps to the goal, each member being the one that the next was reached from.
 pub record Traced (before : List ℕ) (goal k : ℕ) (c : List ℕ) : Type 0 where
-  pub long : length c ≡ 64
+  pub long : length c ≡ k + 1
   pub last : slice_index_or c k 0 ≡ goal
   pub members : (i : ℕ) → i ≤ k → slice_index c i < 64
   pub back : (i : ℕ) → i < k → slice_index c i ≡ slice_index before (slice_index c (i + 1))

@@ -1,48 +1,50 @@
-ghost use Rattle.std.specs.Prelude.{◌≡◌, ◌<◌};
+ghost use Rattle.std.specs.Prelude.{◌≡◌, ℕ, ◌<◌, if◌then◌else◌, slice_index};
+ghost use Rattle.members.specs.Groups.{inside};
 ghost use Rattle.search.specs.Levels.{Spread, Members, Traced};
 ghost use Rattle.search.specs.Answers.{Answered, Searched};
 
+use crate::chain::{Chain, NoChain};
 use crate::graph::Graph;
-use crate::reach::{Chain, Reach};
+use arrayvec::ArrayVec;
 use members::group::Group;
 
-// A shortest chain of steps from the start to the goal, or a group that shows that there is none; None where start or
-// goal is no member.
-pub fn search<G: Graph>(graph: &G, start: u32, goal: u32) -> Option<Reach>
+// A shortest chain of steps from the start to the goal.
+pub fn search<G: Graph>(graph: &G, start: u32, goal: u32) -> Result<Chain, NoChain>
     ensures { Searched (G.steps graph.now) start goal result }
 {
     if start > 63 || goal > 63 {
-        return None;
+        return Err(NoChain::NotMembers);
     }
-    Some(shortest(graph, start, goal))
+    shortest(graph, start, goal).map_err(NoChain::Closed)
 }
 
-// The search between two members, level by level.
-fn shortest<G: Graph>(graph: &G, start: u32, goal: u32) -> Reach
+// The search between two members, level by level: a shortest chain, or a group that shows that there is none.
+fn shortest<G: Graph>(graph: &G, start: u32, goal: u32) -> Result<Chain, Group>
     requires from { start < 64 }
     requires to { goal < 64 }
     ensures { Answered (G.steps graph.now) start goal result }
 {
     let mut before = [0u32; 64];
     if start == goal {
-        return Reach::Along(trace(&before, goal, 0));
+        return Ok(trace(&before, goal, 0));
     }
     let mut seen = Group::empty().with(start);
     let mut frontier = seen;
     let mut level = 0usize;
     while let Some(next) = spread(graph, frontier, seen, &mut before, goal) {
         if next.bits == 0 {
-            return Reach::Closed(seen);
+            return Err(seen);
         }
         seen = seen.union(next);
         frontier = next;
         level += 1;
     }
-    Reach::Along(trace(&before, goal, level + 1))
+    Ok(trace(&before, goal, level + 1))
 }
 
 // The members outside `seen` that are one step from the frontier, each noted in `before` with the member it is
 // reached from; or None as soon as the goal is among them.
+#[tactic(auto, using(members::proofs::Digits::inside_zero))]
 fn spread<G: Graph>(
     graph: &G,
     frontier: Group,
@@ -50,24 +52,28 @@ fn spread<G: Graph>(
     before: &mut [u32; 64],
     goal: u32,
 ) -> Option<Group>
-    requires member { goal < 64 }
-    requires members { Members before.old }
+    requires { Members before.old }
     ensures { Spread (G.steps graph.now) frontier.bits seen.bits goal before.old before.new result }
 {
     let mut next = Group::empty();
-    let mut rest = frontier.walk();
-    'frontier: loop {
-        let Some(m) = rest.next() else {
-            break Some(next);
-        };
-        let mut fresh = graph.reached(m).minus(seen.union(next)).walk();
-        while let Some(n) = fresh.next() {
-            before[n as usize] = m;
-            if n == goal {
-                break 'frontier None;
-            }
-            next = next.with(n);
+    for m in frontier.walk() {
+        let fresh = graph.reached(m).minus(seen.union(next));
+        note(before, fresh, m);
+        if fresh.holds(goal) {
+            return None;
         }
+        next = next.union(fresh);
+    }
+    Some(next)
+}
+
+// Notes each member of a group as reached from m.
+#[tactic(auto, using(members::proofs::Digits::inside_zero))]
+fn note(before: &mut [u32; 64], group: Group, m: u32)
+    ensures { (n : ℕ) → slice_index before.new n ≡ (if inside group.bits n then m else slice_index before.old n) }
+{
+    for n in group.walk() {
+        before[n as usize] = m;
     }
 }
 
@@ -76,17 +82,17 @@ fn trace(before: &[u32; 64], goal: u32, steps: usize) -> Chain
     requires member { goal < 64 }
     requires short { steps < 64 }
     requires members { Members before.now }
-    ensures traced { Traced before.now goal steps result.members }
-    ensures count { result.steps ≡ steps }
+    ensures { Traced before.now goal steps result.members.items }
 {
-    let mut members = [0u32; 64];
+    let mut members = ArrayVec::new();
     let mut at = goal;
-    members[steps] = at;
-    for i in (0..steps).rev() {
+    members.push(at);
+    for _ in 0..steps {
         at = before[at as usize];
-        members[i] = at;
+        members.push(at);
     }
-    Chain { members, steps }
+    members.reverse();
+    Chain { members }
 }
 
 #[cfg(test)]
@@ -109,9 +115,8 @@ mod tests {
     #[test]
     fn takes_the_shorter_way(rt: HostRuntime) -> Result<(), Fail> {
         match search(&graph(), 1, 4) {
-            Some(Reach::Along(chain)) => {
-                assert_eq!(rt; chain.steps, 2);
-                assert_eq!(rt; chain.members[1], 5);
+            Ok(chain) => {
+                assert_eq!(rt; chain.members.as_slice(), [1, 5, 4].as_slice());
                 Ok(())
             }
             _ => Err(Fail::new("no chain")),
@@ -121,7 +126,7 @@ mod tests {
     #[test]
     fn tells_who_is_cut_off(rt: HostRuntime) -> Result<(), Fail> {
         match search(&graph(), 2, 1) {
-            Some(Reach::Closed(group)) => {
+            Err(NoChain::Closed(group)) => {
                 assert_eq!(rt; group.bits, 0b11100);
                 Ok(())
             },
@@ -131,11 +136,11 @@ mod tests {
 
     #[test]
     fn answers_between_members_alone(rt: HostRuntime) -> Result<(), Fail> {
-        assert!(rt; search(&graph(), 64, 1).is_none());
-        assert!(rt; search(&graph(), 1, 64).is_none());
+        assert!(rt; matches!(search(&graph(), 64, 1), Err(NoChain::NotMembers)));
+        assert!(rt; matches!(search(&graph(), 1, 64), Err(NoChain::NotMembers)));
         match search(&graph(), 7, 7) {
-            Some(Reach::Along(chain)) => {
-                assert_eq!(rt; chain.steps, 0);
+            Ok(chain) => {
+                assert_eq!(rt; chain.members.as_slice(), [7].as_slice());
                 Ok(())
             },
             _ => Err(Fail::new("no chain")),

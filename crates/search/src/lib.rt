@@ -2,6 +2,6 @@
 #![tactic(auto)]
 
 pub mod breadth_first;
+pub mod chain;
 pub mod graph;
-pub mod reach;
 pub mod rows;

@@ -23,6 +23,7 @@ impl Rows {
     pub fn add(&mut self, from: u32, to: u32)
         ensures { (m n : ℕ) → reaches self.new m n ≡ (reaches self.old m n || (m == from && nat_lt m 64 && (n == to && nat_lt n 64))) }
     {
+        // no `get_mut`: at an array it promises nothing of what a write through it leaves
         if from < 64 {
             let i = from as usize;
             self.sets[i] = self.sets[i].with(to);
@@ -34,7 +35,10 @@ impl Graph for Rows {
     ghost steps = { λ rows m n. reaches rows m n ≡ true };
 
     fn reached(&self, from: u32) -> Group {
-        row(&self.sets, from)
+        self.sets
+            .get(from as usize)
+            .copied()
+            .unwrap_or(Group::empty())
     }
 }
 
@@ -43,15 +47,4 @@ fn no_steps() -> [Group; 64]
     ensures { (m n : ℕ) → inside (get_or result m nobody).bits n ≡ false }
 {
     [Group::empty(); 64]
-}
-
-// The row of a member, and nobody where there is no such member.
-fn row(sets: &[Group; 64], from: u32) -> Group
-    ensures { result ≡ slice_index_or sets.now from nobody }
-{
-    if from < 64 {
-        sets[from as usize]
-    } else {
-        Group { bits: 0 }
-    }
 }

@@ -1,10 +1,10 @@
 // Worked sums on small networks, run through the library and printed.
 #![tactic(auto)]
 
-use calls::call::Closing;
+use calls::call::Answer;
+use credit::payment::Payment;
 use credit::refusal::Refusal;
-use filling::breadth::Breadth;
-use filling::scaling::Scaling;
+use filling::router::{Breadth, Scaling};
 use ledger::reservation::{Reservation, Unbooked};
 use ledger::state::Ledger;
 use members::group::Group;
@@ -12,98 +12,127 @@ use routing::direct::Direct;
 use routing::router::Router;
 
 // What a call answered.
-fn say(rt: &HostRuntime, what: &str, answer: Result<(), Refusal>) -> anyhow::Result<()> {
-    match answer {
-        Ok(()) => println!(rt; "  {what}: done")?,
-        Err(e) => {
-            let number = e.number();
-            println!(rt; "  {what}: refused with {number}, {e}")?
+fn say<A: Into<Answer>>(rt: &HostRuntime, what: &str, answer: A) -> anyhow::Result<()> {
+    match answer.into() {
+        Answer::Refused(refusal) => {
+            println!(rt; "  {what}: refused with {}, {refusal}", refusal.number())?
         }
+        answer => println!(rt; "  {what}: {answer}")?,
     }
     Ok(())
 }
 
-// A ledger with the lines 1 2 (50, 30) and 2 3 (20, 40).
-fn network(rt: &HostRuntime) -> anyhow::Result<Ledger> {
-    let mut ledger = Ledger::new(rt.alloc())?;
-    say(rt, "open 1 2 50 30", ledger.open(1, 2, 50, 30))?;
-    say(rt, "open 2 3 20 40", ledger.open(2, 3, 20, 40))?;
-    Ok(ledger)
+// A ledger whose calls are printed with their answers.
+#[derive(Drop)]
+struct Shown<'a> {
+    rt: &'a HostRuntime,
+    ledger: Ledger,
 }
 
-// Pays through direct first over breadth.
-fn pay(ledger: &mut Ledger, payer: u32, payee: u32, amount: i32) -> Result<(), Refusal> {
-    let mut plan = [0i32; 256];
-    ledger.pay(
-        &mut Direct::new(Breadth {}),
-        payer,
-        payee,
-        amount,
-        &mut plan,
-    )
+impl<'a> Shown<'a> {
+    // A ledger without lines.
+    fn new(rt: &'a HostRuntime) -> anyhow::Result<Shown<'a>> {
+        let ledger = Ledger::new(rt.alloc())?;
+        Ok(Shown { rt, ledger })
+    }
+
+    // A ledger with the lines 1 2 (50, 30) and 2 3 (20, 40).
+    fn network(rt: &'a HostRuntime) -> anyhow::Result<Shown<'a>> {
+        let mut shown = Shown::new(rt)?;
+        shown.open(1, 2, 50, 30)?;
+        shown.open(2, 3, 20, 40)?;
+        Ok(shown)
+    }
+
+    fn open(&mut self, first: u32, second: u32, trust: i32, back: i32) -> anyhow::Result<()> {
+        let what = format!(in self.rt.alloc(); "open {first} {second} {trust} {back}")?;
+        let opened = self.ledger.open(first, second, trust, back);
+        say(self.rt, &what, opened)
+    }
+
+    fn pay<R: Router>(
+        &mut self,
+        router: &mut R,
+        payer: u32,
+        payee: u32,
+        amount: i32,
+    ) -> anyhow::Result<()> {
+        let payment = Payment {
+            payer,
+            payee,
+            amount,
+        };
+        let what = format!(in self.rt.alloc(); "pay {payment}")?;
+        let paid = self.ledger.pay(router, payment, &mut [0; 256]);
+        say(self.rt, &what, paid)
+    }
+
+    // What the second member owes the first, if a line joins them.
+    fn debt(&self, first: u32, second: u32) -> anyhow::Result<()> {
+        let rt = self.rt;
+        match self.ledger.debt_between(first, second) {
+            Ok(Some(debt)) => println!(rt; "  {second} owes {first}: {debt}")?,
+            Ok(None) => println!(rt; "  no line joins {first} and {second}")?,
+            Err(refusal) => say(rt, "debt between", Answer::Refused(refusal))?,
+        }
+        Ok(())
+    }
 }
 
 fn payments(rt: &HostRuntime) -> anyhow::Result<()> {
     println!(rt; "payments")?;
-    let mut ledger = network(rt)?;
-    say(rt, "pay 1 3 31", pay(&mut ledger, 1, 3, 31))?;
-    say(rt, "pay 1 3 30", pay(&mut ledger, 1, 3, 30))?;
-    say(rt, "pay 3 1 51", pay(&mut ledger, 3, 1, 51))?;
-    let room = ledger.group_room(Group::empty().with(3));
+    let mut shown = Shown::network(rt)?;
+    let router = &mut Direct::new(Breadth {});
+    shown.pay(router, 1, 3, 31)?;
+    shown.pay(router, 1, 3, 30)?;
+    shown.pay(router, 3, 1, 51)?;
+    let room = shown.ledger.group_room(Group::empty().with(3));
     println!(rt; "  the room of the group of 3 alone: {room}")?;
-    say(rt, "pay 3 1 50", pay(&mut ledger, 3, 1, 50))?;
-    say(rt, "pay 64 64 5", pay(&mut ledger, 64, 64, 5))?;
-    say(rt, "pay 1 1 0", pay(&mut ledger, 1, 1, 0))?;
-    say(rt, "pay 1 3 1000000", pay(&mut ledger, 1, 3, 1000000))?;
-    say(rt, "pay 1 3 1000001", pay(&mut ledger, 1, 3, 1000001))?;
-    Ok(())
+    shown.pay(router, 3, 1, 50)?;
+    shown.pay(router, 64, 64, 5)?;
+    shown.pay(router, 1, 1, 0)?;
+    shown.pay(router, 1, 3, 1_000_000)?;
+    shown.pay(router, 1, 3, 1_000_001)
 }
 
-// Reserves through scaling.
-fn reserve(
-    ledger: &mut Ledger,
-    payer: u32,
-    payee: u32,
-    amount: i32,
-) -> Result<Reservation, Refusal> {
-    let mut plan = [0i32; 256];
-    ledger.reserve(&mut Scaling {}, payer, payee, amount, &mut plan)
+// Reserves through scaling, from 1 to 3.
+fn reserve(ledger: &mut Ledger, amount: i32) -> Result<Reservation, Refusal> {
+    let payment = Payment {
+        payer: 1,
+        payee: 3,
+        amount,
+    };
+    ledger.reserve(&mut Scaling {}, payment, &mut [0; 256])
 }
 
-// What became of a reservation: booked, or refused and then released, and whether it stood.
+// A booking that was refused, whose reservation came back and was released: why, and whether it stood.
 #[derive(Clone, Copy)]
-struct Spent {
-    booked: Result<(), Refusal>,
-    released: bool,
+struct Unspent {
+    refusal: Refusal,
+    stood: bool,
 }
+
+type Spent = Result<(), Unspent>;
 
 // Books through breadth; a reservation that is refused comes back and is released.
 fn spend(ledger: &mut Ledger, reservation: Reservation) -> Spent {
-    let mut plan = [0i32; 256];
-    match ledger.book(&mut Breadth {}, reservation, &mut plan) {
-        Ok(()) => Spent {
-            booked: Ok(()),
-            released: false,
-        },
+    match ledger.book(&mut Breadth {}, reservation, &mut [0; 256]) {
+        Ok(()) => Ok(()),
         Err(
             Unbooked {
                 refusal,
                 reservation,
             },
         ) => {
-            let released = ledger.release(reservation);
-            Spent {
-                booked: Err(refusal),
-                released,
-            }
+            let stood = ledger.release(reservation);
+            Err(Unspent { refusal, stood })
         }
     }
 }
 
 fn say_spent(rt: &HostRuntime, what: &str, spent: Spent) -> anyhow::Result<()> {
-    say(rt, what, spent.booked)?;
-    if spent.booked.is_err() {
-        let stood = spent.released;
+    say(rt, what, spent.map_err(|unspent| unspent.refusal))?;
+    if let Err(Unspent { stood, .. }) = spent {
         println!(rt; "    handed back and released; it stood: {stood}")?;
     }
     Ok(())
@@ -111,36 +140,31 @@ fn say_spent(rt: &HostRuntime, what: &str, spent: Spent) -> anyhow::Result<()> {
 
 // A payment of 1 from 1 to 2 while 30 from 1 to 3 are reserved, and the booking after it.
 fn while_reserved(ledger: &mut Ledger) -> Result<(Result<(), Refusal>, Spent), Refusal> {
-    let reservation = reserve(ledger, 1, 3, 30)?;
-    let paid = pay(ledger, 1, 2, 1);
+    let reservation = reserve(ledger, 30)?;
+    let payment = Payment {
+        payer: 1,
+        payee: 2,
+        amount: 1,
+    };
+    let paid = ledger.pay(&mut Direct::new(Breadth {}), payment, &mut [0; 256]);
     Ok((paid, spend(ledger, reservation)))
 }
 
 // A reservation keeps its room until it is booked, through another router than the one that found it.
 fn reservations(rt: &HostRuntime) -> anyhow::Result<()> {
     println!(rt; "a reservation and its booking")?;
-    let mut ledger = network(rt)?;
-    match while_reserved(&mut ledger) {
+    let mut shown = Shown::network(rt)?;
+    match while_reserved(&mut shown.ledger) {
         Ok((paid, spent)) => {
-            say(rt, "reserve 1 3 30", Ok(()))?;
+            say(rt, "reserve 1 3 30", Answer::Done)?;
             say(rt, "pay 1 2 1", paid)?;
             say_spent(rt, "book 1 3 30", spent)?;
         }
-        Err(e) => say(rt, "reserve 1 3 30", Err(e))?,
+        Err(refusal) => say(rt, "reserve 1 3 30", Answer::Refused(refusal))?,
     }
-    show_debt(rt, &ledger, 1, 2)?;
-    show_debt(rt, &ledger, 2, 3)?;
-    show_debt(rt, &ledger, 1, 3)
-}
-
-// What the second member owes the first, if a line joins them.
-fn show_debt(rt: &HostRuntime, ledger: &Ledger, first: u32, second: u32) -> anyhow::Result<()> {
-    match ledger.debt_between(first, second) {
-        Ok(Some(debt)) => println!(rt; "  {second} owes {first}: {debt}")?,
-        Ok(None) => println!(rt; "  no line joins {first} and {second}")?,
-        Err(e) => say(rt, "debt between", Err(e))?,
-    }
-    Ok(())
+    shown.debt(1, 2)?;
+    shown.debt(2, 3)?;
+    shown.debt(1, 3)
 }
 
 // 20 from 1 to 3 are reserved here and another amount in another ledger, whose token is spent here first.
@@ -149,15 +173,15 @@ fn spend_foreign(
     there: &mut Ledger,
     amount: i32,
 ) -> Result<(Spent, Spent), Refusal> {
-    let ours = reserve(here, 1, 3, 20)?;
-    match reserve(there, 1, 3, amount) {
+    let ours = reserve(here, 20)?;
+    match reserve(there, amount) {
         Ok(foreign) => {
             let first = spend(here, foreign);
             Ok((first, spend(here, ours)))
         }
-        Err(e) => {
+        Err(refusal) => {
             here.release(ours);
-            Err(e)
+            Err(refusal)
         }
     }
 }
@@ -165,57 +189,45 @@ fn spend_foreign(
 // A reservation counts by its three numbers: one of another ledger is refused, unless its numbers are those that stand.
 fn strangers(rt: &HostRuntime, amount: i32) -> anyhow::Result<()> {
     println!(rt; "20 reserved here, {amount} in another ledger")?;
-    let mut here = network(rt)?;
+    let mut here = Shown::network(rt)?;
     let mut there = Ledger::new(rt.alloc())?;
     say(rt, "open 1 3 0 50 there", there.open(1, 3, 0, 50))?;
-    match spend_foreign(&mut here, &mut there, amount) {
+    match spend_foreign(&mut here.ledger, &mut there, amount) {
         Ok((foreign, ours)) => {
             say_spent(rt, "book the token of the other ledger", foreign)?;
             say_spent(rt, "book our own", ours)
         }
-        Err(e) => say(rt, "reserve", Err(e)),
+        Err(refusal) => say(rt, "reserve", Answer::Refused(refusal)),
     }
-}
-
-fn say_closed(
-    rt: &HostRuntime,
-    what: &str,
-    answer: Result<Closing, Refusal>,
-) -> anyhow::Result<()> {
-    match answer {
-        Ok(Closing::Kept) => println!(rt; "  {what}: kept")?,
-        Ok(Closing::Undone) => println!(rt; "  {what}: undone")?,
-        Err(e) => say(rt, what, Err(e))?,
-    }
-    Ok(())
 }
 
 // Groups of payments within groups, kept and spoiled.
 fn groups(rt: &HostRuntime) -> anyhow::Result<()> {
     println!(rt; "groups of payments")?;
-    let mut ledger = network(rt)?;
-    say(rt, "begin", ledger.begin())?;
-    say(rt, "pay 1 3 10", pay(&mut ledger, 1, 3, 10))?;
-    say(rt, "begin inside", ledger.begin())?;
-    say(rt, "pay 1 3 99", pay(&mut ledger, 1, 3, 99))?;
-    say(rt, "pay 1 3 1", pay(&mut ledger, 1, 3, 1))?;
-    say_closed(rt, "end of the inner", ledger.end())?;
-    say(rt, "pay 1 3 5", pay(&mut ledger, 1, 3, 5))?;
-    say_closed(rt, "end of the outer", ledger.end())?;
-    show_debt(rt, &ledger, 1, 2)?;
-    say(rt, "begin", ledger.begin())?;
-    say(rt, "pay 3 1 15", pay(&mut ledger, 3, 1, 15))?;
-    say_closed(rt, "abandon", ledger.abandon())?;
-    show_debt(rt, &ledger, 1, 2)?;
-    say_closed(rt, "end", ledger.end())
+    let mut shown = Shown::network(rt)?;
+    let router = &mut Direct::new(Breadth {});
+    say(rt, "begin", shown.ledger.begin())?;
+    shown.pay(router, 1, 3, 10)?;
+    say(rt, "begin inside", shown.ledger.begin())?;
+    shown.pay(router, 1, 3, 99)?;
+    shown.pay(router, 1, 3, 1)?;
+    say(rt, "end of the inner", shown.ledger.end())?;
+    shown.pay(router, 1, 3, 5)?;
+    say(rt, "end of the outer", shown.ledger.end())?;
+    shown.debt(1, 2)?;
+    say(rt, "begin", shown.ledger.begin())?;
+    shown.pay(router, 3, 1, 15)?;
+    say(rt, "abandon", shown.ledger.abandon())?;
+    shown.debt(1, 2)?;
+    say(rt, "end", shown.ledger.end())
 }
 
 // Nine begins, of which the last is refused.
 fn begins(rt: &HostRuntime) -> anyhow::Result<()> {
     println!(rt; "nine begins")?;
-    let mut ledger = Ledger::new(rt.alloc())?;
+    let mut shown = Shown::new(rt)?;
     for _ in 0..9u8 {
-        say(rt, "begin", ledger.begin())?;
+        say(rt, "begin", shown.ledger.begin())?;
     }
     Ok(())
 }
@@ -223,45 +235,29 @@ fn begins(rt: &HostRuntime) -> anyhow::Result<()> {
 // 1 owes 2 seven, 2 owes 3 five, 3 owes 1 nine.
 fn rings(rt: &HostRuntime) -> anyhow::Result<()> {
     println!(rt; "a ring of debts, tidied")?;
-    let mut ledger = Ledger::new(rt.alloc())?;
-    say(rt, "open 1 2 0 10", ledger.open(1, 2, 0, 10))?;
-    say(rt, "open 2 3 0 10", ledger.open(2, 3, 0, 10))?;
-    say(rt, "open 1 3 10 0", ledger.open(1, 3, 10, 0))?;
-    let plan = &mut [0i32; 256];
-    say(
-        rt,
-        "pay 1 2 7",
-        ledger.pay(&mut Direct::new(Breadth {}), 1, 2, 7, plan),
-    )?;
-    say(
-        rt,
-        "pay 2 3 5",
-        ledger.pay(&mut Direct::new(Breadth {}), 2, 3, 5, plan),
-    )?;
-    say(
-        rt,
-        "pay 3 1 9",
-        ledger.pay(&mut Direct::new(Breadth {}), 3, 1, 9, plan),
-    )?;
-    ledger.tidy();
-    show_debt(rt, &ledger, 2, 1)?;
-    show_debt(rt, &ledger, 3, 2)?;
-    show_debt(rt, &ledger, 1, 3)
+    let mut shown = Shown::new(rt)?;
+    shown.open(1, 2, 0, 10)?;
+    shown.open(2, 3, 0, 10)?;
+    shown.open(1, 3, 10, 0)?;
+    let router = &mut Direct::new(Breadth {});
+    shown.pay(router, 1, 2, 7)?;
+    shown.pay(router, 2, 3, 5)?;
+    shown.pay(router, 3, 1, 9)?;
+    shown.ledger.tidy();
+    shown.debt(2, 1)?;
+    shown.debt(3, 2)?;
+    shown.debt(1, 3)
 }
 
 // Lines on which two routers leave different debts.
 fn forked<R: Router>(rt: &HostRuntime, name: &str, router: &mut R) -> anyhow::Result<()> {
     println!(rt; "64 from 1 to 3 under {name}")?;
-    let mut ledger = Ledger::new(rt.alloc())?;
-    say(rt, "open 1 3 0 1", ledger.open(1, 3, 0, 1))?;
-    say(rt, "open 1 2 0 64", ledger.open(1, 2, 0, 64))?;
-    say(rt, "open 2 3 0 64", ledger.open(2, 3, 0, 64))?;
-    say(
-        rt,
-        "pay 1 3 64",
-        ledger.pay(router, 1, 3, 64, &mut [0i32; 256]),
-    )?;
-    show_debt(rt, &ledger, 1, 3)
+    let mut shown = Shown::new(rt)?;
+    shown.open(1, 3, 0, 1)?;
+    shown.open(1, 2, 0, 64)?;
+    shown.open(2, 3, 0, 64)?;
+    shown.pay(router, 1, 3, 64)?;
+    shown.debt(1, 3)
 }
 
 fn run(rt: &HostRuntime) -> anyhow::Result<()> {

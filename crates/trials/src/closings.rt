@@ -1,13 +1,10 @@
 // Batches with the whole text of their sheets.
 use batch::sheet::{MAX_LINE, SheetLine};
 use closing::batches::{LONGEST_BATCH, close_batch};
-use filling::breadth::Breadth;
+use credit::payment::Payment;
+use filling::router::Breadth;
 use ledger::state::Ledger;
 use std::test::*;
-
-fn same(a: &[u8], b: &[u8]) -> bool {
-    a == b
-}
 
 // Adds the text of one line of a sheet.
 fn add_text(text: &mut Vec<u8>, line: &SheetLine) -> Result<(), Fail> {
@@ -33,7 +30,7 @@ fn sheet_of(rt: &HostRuntime, ledger: &mut Ledger, batch: &[u8]) -> Result<Vec<u
 // The batch closes with this sheet.
 fn closes(rt: &HostRuntime, ledger: &mut Ledger, batch: &[u8], sheet: &[u8]) -> Result<(), Fail> {
     let text = sheet_of(rt, ledger, batch)?;
-    if same(&text, sheet) {
+    if text.as_slice() == sheet {
         Ok(())
     } else {
         Err(Fail::new("another sheet"))
@@ -143,13 +140,8 @@ fn longest(rt: HostRuntime) -> Result<(), Fail> {
     assert_eq!(rt; batch.len(), LONGEST_BATCH);
     let mut ledger = Ledger::new(rt.alloc())?;
     let text = sheet_of(&rt, &mut ledger, &batch)?;
-    assert!(rt; text.len() >= 49);
-    assert!(rt;
-        same(
-            &text[text.len() - 49..],
-            b"(ok 4680)\n(net 1 0)\n(net 2 0)\n(debt 1 2 0)\n(end)\n",
-        )
-    );
+    let end = b"(ok 4680)\n(net 1 0)\n(net 2 0)\n(debt 1 2 0)\n(end)\n".as_slice();
+    assert!(rt; text.as_slice().ends_with(end));
     batch.extend_from_slice(b"\n")?;
     let mut other = Ledger::new(rt.alloc())?;
     closes(&rt, &mut other, &batch, b"(no 0 20)\n")?;
@@ -173,7 +165,7 @@ fn many_lines(rt: HostRuntime) -> Result<(), Fail> {
     let mut ledger = Ledger::new(rt.alloc())?;
     let text = sheet_of(&rt, &mut ledger, &batch)?;
     assert!(rt; text.len() >= 2208);
-    assert!(rt; same(&text[2187..2208], b"(ok 256)\n(no 257 11)\n"));
+    assert!(rt; &text[2187..2208] == b"(ok 256)\n(no 257 11)\n".as_slice());
     Ok(())
 }
 
@@ -208,7 +200,12 @@ fn doors(rt: HostRuntime) -> Result<(), Fail> {
     assert!(rt; ledger.begin().is_ok());
     closes(&rt, &mut ledger, b"(pay 1 2 5)\n", b"(no 0 12)\n")?;
     assert!(rt; ledger.abandon().is_ok());
-    let token = ledger.reserve(&mut Breadth {}, 1, 2, 5, &mut [0; 256])?;
+    let payment = Payment {
+        payer: 1,
+        payee: 2,
+        amount: 5,
+    };
+    let token = ledger.reserve(&mut Breadth {}, payment, &mut [0; 256])?;
     let shut = closes(&rt, &mut ledger, b"(pay 1 2 5)\n", b"(no 0 8)\n");
     let released = ledger.release(token);
     shut?;

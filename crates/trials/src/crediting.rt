@@ -1,5 +1,6 @@
 use credit::line::Line;
 use credit::net::net_position;
+use credit::payment::Payment;
 use credit::refusal::Refusal;
 use credit::room::group_room;
 use members::group::Group;
@@ -44,5 +45,17 @@ fn a_refusal_is_told(rt: HostRuntime) -> Result<(), Fail> {
     };
     let text = refusal.to_string(rt.alloc())?;
     assert!(rt; text.as_str().ends_with(" has room 7"));
+    Ok(())
+}
+
+#[test]
+fn a_payment_is_told(rt: HostRuntime) -> Result<(), Fail> {
+    let payment = Payment {
+        payer: 7,
+        payee: 12,
+        amount: -30,
+    };
+    let text = payment.to_string(rt.alloc())?;
+    assert_eq!(rt; text.as_str(), "7 12 -30");
     Ok(())
 }

@@ -6,60 +6,60 @@ use credit::refusal::Refusal;
 use members::group::Group;
 use std::test::*;
 
-fn same(a: &[u8], b: &[u8]) -> bool {
-    a == b
-}
-
-// The number of a line's refusal; 0 where it is a form.
-fn refusal(line: &[u8]) -> u32 {
-    match form(line) {
-        Ok(_) => 0,
-        Err(e) => e.number(),
-    }
-}
-
 #[test]
 fn bad_lines(rt: HostRuntime) -> Result<(), Fail> {
-    let table: [(&[u8], u32); 22] = [
-        (b"(line 1 2 1000000 1000000 000000000000 )", 3),
-        (b"(line 1 2 1000000 1000000 0000000000000 )", 1),
-        (b"((((((((((((((((((((((((((((((((((((((((", 2),
-        (b"(((((((((((((((((((((((((((((((((((((((((", 1),
-        (b"", 2),
-        (b"\r", 2),
-        (b"(tidy)\r", 2),
-        (b"(pay 1 2 3)\r", 3),
-        (b"(pay 1 2 3\0)", 4),
-        (b"\0", 2),
-        (b"(pay 1 2 \xff)", 4),
-        (b"\xc3\xa9", 2),
-        (b"(pay 1 2 12345678)", 4),
-        (b"(pay 1 2 9999999)", 0),
-        (b"(pay 01 2 3)", 4),
-        (b"(pay 0 0 00)", 4),
-        (b"(pay 1  3)", 4),
-        (b"(pay 1 2  3)", 3),
-        (b"(pay 1 2)", 3),
-        (b"(pay 1 2 3", 3),
-        (b"(pay", 2),
-        (b"(pay )", 3),
+    let table: [(&[u8], Option<Refusal>); 22] = [
+        (
+            b"(line 1 2 1000000 1000000 000000000000 )",
+            Some(Refusal::WrongParts),
+        ),
+        (
+            b"(line 1 2 1000000 1000000 0000000000000 )",
+            Some(Refusal::LineTooLong),
+        ),
+        (
+            b"((((((((((((((((((((((((((((((((((((((((",
+            Some(Refusal::UnknownForm),
+        ),
+        (
+            b"(((((((((((((((((((((((((((((((((((((((((",
+            Some(Refusal::LineTooLong),
+        ),
+        (b"", Some(Refusal::UnknownForm)),
+        (b"\r", Some(Refusal::UnknownForm)),
+        (b"(tidy)\r", Some(Refusal::UnknownForm)),
+        (b"(pay 1 2 3)\r", Some(Refusal::WrongParts)),
+        (b"(pay 1 2 3\0)", Some(Refusal::NotANumber)),
+        (b"\0", Some(Refusal::UnknownForm)),
+        (b"(pay 1 2 \xff)", Some(Refusal::NotANumber)),
+        (b"\xc3\xa9", Some(Refusal::UnknownForm)),
+        (b"(pay 1 2 12345678)", Some(Refusal::NotANumber)),
+        (b"(pay 1 2 9999999)", None),
+        (b"(pay 01 2 3)", Some(Refusal::NotANumber)),
+        (b"(pay 0 0 00)", Some(Refusal::NotANumber)),
+        (b"(pay 1  3)", Some(Refusal::NotANumber)),
+        (b"(pay 1 2  3)", Some(Refusal::WrongParts)),
+        (b"(pay 1 2)", Some(Refusal::WrongParts)),
+        (b"(pay 1 2 3", Some(Refusal::WrongParts)),
+        (b"(pay", Some(Refusal::UnknownForm)),
+        (b"(pay )", Some(Refusal::WrongParts)),
     ];
-    for (line, number) in table {
-        assert_eq!(rt; refusal(line), number);
+    for (line, refusal) in table {
+        assert_eq!(rt; form(line).err(), refusal);
     }
     Ok(())
 }
 
 #[test]
 fn steps(rt: HostRuntime) -> Result<(), Fail> {
-    assert!(rt; Reader::new(b"").step().is_none());
+    assert!(rt; Reader::new(b"").next().is_none());
     let mut reader = Reader::new(b"(tidy)\n\n(line 1 2 50 0)");
-    let first = reader.step().ok_or("a line")?;
+    let first = reader.next().ok_or("a line")?;
     assert_eq!(rt; first.line, 1);
     assert_eq!(rt; first.form?, Form::Tidy);
-    let second = reader.step().ok_or("an empty line")?;
+    let second = reader.next().ok_or("an empty line")?;
     assert!(rt; second.form.is_err());
-    let third = reader.step().ok_or("a line without line feed")?;
+    let third = reader.next().ok_or("a line without line feed")?;
     assert_eq!(rt; third.line, 3);
     assert_eq!(rt;
         third.form?,
@@ -70,7 +70,7 @@ fn steps(rt: HostRuntime) -> Result<(), Fail> {
             back: 0,
         }
     );
-    assert!(rt; reader.step().is_none());
+    assert!(rt; reader.next().is_none());
     Ok(())
 }
 
@@ -83,11 +83,13 @@ fn lines(rt: HostRuntime) -> Result<(), Fail> {
             room: -7,
         },
     };
+    let printed = format!(in rt.alloc(); "{refused}")?;
+    assert_eq!(rt; printed.as_str(), "(no 5 16 -7 1 63)\n");
     let mut buffer = [b'.'; MAX_LINE];
     assert_eq!(rt; refused.write(&mut buffer)?, 18);
-    assert!(rt; same(&buffer[0..19], b"(no 5 16 -7 1 63)\n."));
+    assert!(rt; &buffer[0..19] == b"(no 5 16 -7 1 63)\n.".as_slice());
     let mut short = [b'.'; 5];
     assert!(rt; SheetLine::End.write(&mut short).is_err());
-    assert!(rt; same(&short, b"....."));
+    assert!(rt; short == *b".....");
     Ok(())
 }

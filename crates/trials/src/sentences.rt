@@ -1,5 +1,6 @@
 use batch::form::Form;
 use batch::sheet::SheetLine;
+use credit::payment::Payment;
 use credit::refusal::Refusal;
 use explain::sentence::Sentence;
 use explain::whole::explain;
@@ -19,11 +20,11 @@ fn plain(line: SheetLine) -> Sentence {
 
 #[test]
 fn sentences(rt: HostRuntime) -> Result<(), Fail> {
-    let pay = Form::Pay {
+    let pay = Form::Pay(Payment {
         payer: 1,
         payee: 1,
         amount: 3,
-    };
+    });
     let want = Refusal::WantOfRoom {
         group: Group {
             bits: 1 << 63 | 1 << 9 | 2,

@@ -1,11 +1,22 @@
 // The steps of a reader.
-ghost use Rattle.std.specs.Prelude.{◌≡◌, length};
-ghost use Rattle.batch.specs.Reads.{steps_of, left as ahead, head_of, tail_of, Passed};
-ghost use Rattle.std.specs.Iterator.{at_most};
+ghost use Rattle.std.specs.Prelude.{◌≡◌, ◌==◌};
+ghost use Rattle.std.specs.Iterator.{YieldsFirst, item_count};
+ghost use Rattle.std.specs.List.{before_first, after_first};
+ghost use Rattle.batch.specs.Reads.{steps_of, left as ahead};
 
 use crate::reader::{Reader, Step};
 use crate::reading::form;
-use crate::scan::find;
+
+// The bytes up to the first line feed, and those after it.
+fn first_line(text: &[u8]) -> (&[u8], &[u8])
+    ensures line { result.0.now ≡ before_first (λ b. b == 10) text.now }
+    ensures rest { result.1.now ≡ after_first (λ b. b == 10) text.now }
+{
+    match text.iter().position(|b| *b == b'\n') {
+        Some(end) => (&text[..end], &text[end + 1..]),
+        None => (text, &[]),
+    }
+}
 
 impl<'a> Reader<'a> {
     // A reader at the start of the batch.
@@ -13,39 +24,8 @@ impl<'a> Reader<'a> {
         ensures { ahead result ≡ steps_of batch.now }
     {
         Reader {
-            batch,
-            at: 0,
+            rest: batch,
             line: 0,
-        }
-    }
-
-    // Goes past the next line, and hands out its bytes.
-    fn next_line(&mut self) -> Option<&'a [u8]>
-        ensures { Passed self.old result self.new }
-    {
-        if self.at == self.batch.len() {
-            return None;
-        }
-        let rest = &self.batch[self.at..];
-        let len = find(rest, b'\n');
-        let past = if len < rest.len() { len + 1 } else { len };
-        self.at += past;
-        self.line += 1;
-        Some(&rest[0..len])
-    }
-
-    // The next form, if there is a further line.
-    pub fn step(&mut self) -> Option<Step>
-        ensures value { result ≡ head_of (ahead self.old) }
-        ensures after { ahead self.new ≡ tail_of (ahead self.old) }
-        ensures same { self.new.batch ≡ self.old.batch }
-    {
-        match self.next_line() {
-            Some(line) => Some(Step {
-                line: self.line,
-                form: form(line),
-            }),
-            None => None,
         }
     }
 }
@@ -53,11 +33,21 @@ impl<'a> Reader<'a> {
 impl<'a> Iterator for Reader<'a> {
     type Item = Step;
 
-    ghost next_gives = { λ a r b. (r ≡ head_of (ahead a)) × (ahead b ≡ tail_of (ahead a)) };
+    ghost next_gives = { YieldsFirst ahead };
 
-    ghost remaining = { λ r. at_most (length (ahead r)) };
+    ghost remaining = { item_count ahead };
 
+    #[tactic(auto, using(crate::proofs::Lines::stepped))]
     fn next(&mut self) -> Option<Step> {
-        self.step()
+        if self.rest.is_empty() {
+            return None;
+        }
+        let (line, rest) = first_line(self.rest);
+        self.rest = rest;
+        self.line += 1;
+        Some(Step {
+            line: self.line,
+            form: form(line),
+        })
     }
 }

@@ -1,23 +1,18 @@
-use Rattle.std.proofs.Common.{ap, ◌∙◌}
-use Rattle.batch.specs.Reads.{left}
-use Rattle.explain.specs.Tells.{form_at}
-use Rattle.explain.proofs.Seeking.{found, passed, missing}
+use Rattle.std.proofs.Common.{◌≡◌, eqb, sym, ap, ◌∙◌, rules, tests}
+use Rattle.std.specs.Option.{option_and_then}
+use Rattle.std.specs.Result.{result_ok}
+use Rattle.std.proofs.lemmas.Iterator.Adapters.{option_map_id}
+use Rattle.std.proofs.lemmas.Iterator.Search.{find_from_yields_List}
+use Rattle.std.proofs.lemmas.Iterator.Consumers.{YieldsList-from_first}
+use Rattle.batch.specs.declared.reader.Step.{Step}
+use Rattle.batch.specs.Reads.{left, steps_of}
+use Rattle.explain.proofs.Seeking.{sought}
 use Rattle.explain.proofs.forms.form_at.Goals as goal
 
-pub loop-step-init : goal.loop-step-init
-loop-step-init c =
-    (tt, tt, ap (λ r. form_at c.args.line (left r)) c.into_iter-step-iterator.ensures.into_iter_gives ∙ ap (form_at c.args.line) c.new-step-items.ensures)
-
-pub loop-step-preserved : goal.loop-step-preserved
-loop-step-preserved c =
-    let steps = c.in-Some.ensures.steps in
-    (tt, tt, passed c.args.line (left c.loop-step.step-iterator) (left c.next.new.self) c.in-Some.step steps.0 steps.1 c.if-step-line.false ∙ c.loop-step.invariant.2)
-
-pub returns-then-step-line : goal.returns-then-step-line
-returns-then-step-line c =
-    c.ok.ensures.value
-    ∙ found c.args.line (left c.loop-step.step-iterator) c.in-Some.step c.in-Some.ensures.steps.0 c.if-step-line.true
-    ∙ c.loop-step.invariant.2
-
 pub returns : goal.returns
-returns c = missing c.args.line (left c.loop-step.step-iterator) c.in-None.ensures.steps.0 ∙ c.loop-step.invariant.2
+returns c =
+    let n = c.args.line in
+    let steps = steps_of c.args.batch.now in
+    let found = find_from_yields_List (λ s. eqb s.line n) c.find.new.self _ c.find.result c.find.ensures.ran (YieldsList-from_first (λ x. x) left steps c.new.ensures) (λ x b q k. search (rules, tests)) in
+    let form : c.and_then.result ≡ option_and_then (λ (s : Step). result_ok s.form) c.find.result = search (rules, tests) in
+    form ∙ ap (option_and_then (λ (s : Step). result_ok s.form)) (sym (option_map_id c.find.result) ∙ found) ∙ sought n steps

@@ -1,6 +1,7 @@
+use Rattle.std.proofs.Common.{◌≡◌, take}
 use Rattle.credit.specs.Plans.{booked}
-use Rattle.filling.specs.Fillings.{Least}
+use Rattle.filling.specs.Fillings.{least_over}
 use Rattle.filling.proofs.chain.least_room.Given as goal
 
-abbrev pub invariant-loop-i : goal.invariant-loop-i
-invariant-loop-i l = Least (booked l.lines l.plan) l.chain.members l.places l.i l.left l.least
+abbrev pub invariant-loop-hop : goal.invariant-loop-hop
+invariant-loop-hop l = l.least ≡ least_over (booked l.lines l.plan) (take l.hop-index l.hops) l.left

@@ -1,76 +1,59 @@
-use Rattle.std.proofs.Common.{◌≡◌, ℕ, ◌+◌, ◌<◌, get_or, ℤ, pos, ◌≤ℤ◌, sym, subst, arith, w32, w64, to_z, of_z}
-use Rattle.std.proofs.lemmas.Int.{ints, to_z-of_z}
+use Rattle.std.proofs.Common.{◌≡◌, pos, ◌≤ℤ◌, sym, subst, arith, w32, w64, to_z, of_z}
+use Rattle.std.proofs.lemmas.Int.{ints}
 use Rattle.credit.specs.Plans.{booked}
-use Rattle.credit.proofs.Booked.{length_booked}
+use Rattle.search.specs.Chains.{IsShortest}
+use Rattle.routing.proofs.Passing.{passed_facts}
 use Rattle.filling.specs.Steps.{RoomStep}
-use Rattle.filling.specs.Fillings.{Over, Least}
-use Rattle.filling.proofs.Filled.{usable_facts, over_at, least_some}
+use Rattle.filling.specs.Fillings.{Filling}
+use Rattle.filling.proofs.Leasts.{least_all}
+use Rattle.filling.proofs.Along.{all_apart}
+use Rattle.filling.proofs.Filled.{sent_bound}
 use Rattle.filling.proofs.fill.fill.Goals as goal
+use Rattle.filling.proofs.fill.fill.Goals.{After-least_room-x}
 
--- a small number as it is cast
-same : (r n : ℤ) → pos 1 ≤ℤ r → r ≤ℤ n → n ≤ℤ pos 1000000 → to_z w32 (of_z w32 (to_z w64 (of_z w64 r))) ≡ r
-same r n h k l = omega (arith, ints)
-
-pub places-places-requires : goal.places-places-requires
-places-places-requires c =
-    let ls = c.args.lines.now in
-    let xs = c.args.plan.now in
-    let cs = c.args.chain.now.members in
+-- the filling, and how much is sent
+filling : (c : After-least_room-x) → Filling c.args.lines.now c.args.rest.payer c.args.rest.payee (pos c.args.least) c.args.rest.amount c.args.plan.now c.args.chain.now.members.items c.hops-hops.result.items c.least_room-x.result
+filling c =
+    let ls = booked c.args.lines.now c.args.plan.now in
+    let hops = c.hops-hops.result.items in
+    let p = passed_facts c.args.lines.now c.args.rest c.args.plan.now c.requires.checks in
+    let n : to_z w32 (of_z w32 c.args.rest.amount) ≡ c.args.rest.amount = omega (arith, ints, p.low, p.high) in
     record {
-      long = (usable_facts ls xs c.requires.usable).long;
-      short = c.requires.short;
-      linked = λ i h. subst (λ t. RoomStep (booked ls xs) t (get_or cs i 0) (get_or cs (i + 1) 0)) (sym (to_z-of_z w32 _ c.ranges.least)) (c.requires.linked i h);
+      some = p.low;
+      shortest = subst (λ k. IsShortest (RoomStep ls (pos c.args.least)) c.args.rest.payer c.args.rest.payee c.args.chain.now.members.items k) (sym c.hops-hops.ensures.count) c.requires.shortest;
+      over = c.hops-hops.ensures.over;
+      amount = least_all ls hops c.args.rest.amount c.least_room-x.result (rw (c.deref.ensures.0, n) at c.least_room-x.ensures);
     }
 
-pub least_room-x-requires : goal.least_room-x-requires
-least_room-x-requires c =
-    let ls = c.args.lines.now in
-    let xs = c.args.plan.now in
-    record {
-      long = (usable_facts ls xs c.requires.usable).long;
-      short = c.requires.short;
-      over = λ i h. let o = (c.places-places.ensures i h).0 in omega (arith, o, length_booked ls xs);
-    }
+low : (c : After-least_room-x) → pos 0 ≤ℤ c.least_room-x.result
+low c =
+    let f = filling c in
+    let a : pos 0 ≤ℤ c.args.rest.amount = omega (arith, ints, f.some) in
+    let b : pos 0 ≤ℤ pos c.args.least = omega (arith, ints) in
+    sent_bound _ _ _ _ _ _ (pos 0) f.over f.amount a b
 
-pub send-requires : goal.send-requires
-send-requires c =
-    let ls = c.args.lines.now in
-    let xs = c.args.plan.now in
-    let cs = c.args.chain.now.members in
-    let k = c.args.chain.now.steps in
-    let ps = c.places-places.result in
-    let least = c.args.least in
-    let left = c.args.left in
-    let r = c.least_room-x.result in
-    let fl = c.ranges.least in
-    let ft = c.ranges.left in
-    let over : (i : ℕ) → i < k → Over (booked ls xs) least cs ps i = simp to_z-of_z at c.places-places.ensures in
-    let v : Least (booked ls xs) cs ps k left r = simp to_z-of_z at c.least_room-x.ensures in
-    let low = least_some (booked ls xs) least cs ps k left r c.requires.least c.requires.some over v in
-    let e = same r left low v.most c.requires.small in
-    record {
-      usable = c.requires.usable;
-      short = c.requires.short;
-      apart = c.requires.apart;
-      over = λ i h. subst (λ t. Over (booked ls xs) t cs ps i) (sym e) (over_at (booked ls xs) least r cs ps i (over i h) (v.within i h));
-      low = subst (λ t. pos 0 ≤ℤ t) (sym e) (omega (arith, ints, low));
-      high = subst (λ t. t ≤ℤ pos 1000000) (sym e) (omega (arith, ints, v.most, c.requires.small));
-    }
+high : (c : After-least_room-x) → c.least_room-x.result ≤ℤ pos 1000000
+high c = let p = passed_facts c.args.lines.now c.args.rest c.args.plan.now c.requires.checks in omega (arith, ints, (filling c).amount.most, p.high)
+
+cast : (c : After-least_room-x) → to_z w32 (of_z w32 (to_z w64 (of_z w64 c.least_room-x.result))) ≡ c.least_room-x.result
+cast c = omega (arith, ints, low c, high c)
+
+pub overflow_cast-x : goal.overflow_cast-x
+overflow_cast-x c = omega (arith, ints, low c, high c)
+
+pub send-requires-clause-apart : goal.send-requires-clause-apart
+send-requires-clause-apart c =
+    let f = filling (goal.at.send-requires-clause-apart c).After-least_room-x in
+    let p = passed_facts c.args.lines.now c.args.rest c.args.plan.now c.requires.checks in
+    rw c.deref-2.ensures.0 (all_apart c.args.lines.now c.args.plan.now p.long (pos c.args.least) c.args.chain.now.members.items c.hops-hops.result.items f.shortest.apart f.over)
+
+pub send-requires-clause-low : goal.send-requires-clause-low
+send-requires-clause-low c = let b = (goal.at.send-requires-clause-low c).After-least_room-x in rw (cast b) (low b)
+
+pub send-requires-clause-high : goal.send-requires-clause-high
+send-requires-clause-high c = let b = (goal.at.send-requires-clause-high c).After-least_room-x in rw (cast b) (high b)
 
 pub returns : goal.returns
 returns c =
-    let ls = c.args.lines.now in
-    let xs = c.args.plan.now in
-    let cs = c.args.chain.now.members in
-    let k = c.args.chain.now.steps in
-    let ps = c.places-places.result in
-    let least = c.args.least in
-    let left = c.args.left in
-    let r = c.least_room-x.result in
-    let fl = c.ranges.least in
-    let ft = c.ranges.left in
-    let over : (i : ℕ) → i < k → Over (booked ls xs) least cs ps i = simp to_z-of_z at c.places-places.ensures in
-    let v : Least (booked ls xs) cs ps k left r = simp to_z-of_z at c.least_room-x.ensures in
-    let low = least_some (booked ls xs) least cs ps k left r c.requires.least c.requires.some over v in
-    let e = same r left low v.most c.requires.small in
-    (ps, (over, subst (λ t. Least (booked ls xs) cs ps k left t) (sym e) v, c.send.ensures))
+    let b = (goal.at.returns c).After-least_room-x in
+    rw (cast b) (c.args.chain.now.members.items, c.hops-hops.result.items, filling b, rw (c.deref-2.ensures.0, cast b) at c.send.ensures)

@@ -1,42 +1,47 @@
-use Rattle.std.proofs.Common.{◌<◌, ◌||◌, length, get_or, take, pos, sym, ap, ◌∙◌, arith, w32, SFits, to_z, of_z, rules}
+use Rattle.std.proofs.Common.{◌≡◌, ℕ, ◌<◌, true, ℤ, length, get_or, pos, sym, ap, ◌∙◌, subst, arith, w32, SFits, rules, length-append}
 use Rattle.std.proofs.lemmas.Int.{to_z-of_z}
 use Rattle.std.proofs.lemmas.List.{take_all}
+use Rattle.std.proofs.lemmas.Slice.Zip.{zip_turn, zip_end}
+use Rattle.credit.specs.declared.line.Line.{Line}
 use Rattle.credit.specs.Net.{no_line, bounded}
-use Rattle.credit.specs.Plans.{booked, moved}
+use Rattle.credit.specs.Plans.{booked}
 use Rattle.credit.proofs.Sums.{every_at}
-use Rattle.credit.proofs.Booked.{booked_at, length_booked}
-use Rattle.filling.specs.Steps.{leads}
-use Rattle.filling.proofs.Filled.{usable_facts}
+use Rattle.credit.proofs.Booked.{length_booked}
 use Rattle.filling.proofs.Rowing.{any_leads, any_more, any_step, step_any}
+use Rattle.search.specs.Rowed.{reaches}
+use Rattle.filling.proofs.Filled.{usable_facts}
 use Rattle.filling.proofs.graph.room_graph.Goals as goal
+use Rattle.filling.proofs.graph.room_graph.Goals.{In-Some, In-None}
+
+-- this turn's line and number, by their place
+turn : (c : In-Some) → (length c.loop-line.yielded < length c.args.lines.now) × (length c.loop-line.yielded < length c.args.plan.now) × ((d : Line) → c.in-Some.line.now ≡ get_or c.args.lines.now (length c.loop-line.yielded) d) × ((d : ℤ) → c.in-Some.planned.now ≡ get_or c.args.plan.now (length c.loop-line.yielded) d)
+turn c =
+    zip_turn c.args.lines.now c.args.plan.now c.loop-line.yielded c.into_iter-line-iterator.result c.loop-line.line-iterator c.next.new.self c.next.result
+    (search rules) (search rules) c.loop-line.yielded_by (c.in-Some.line, c.in-Some.planned) c.in-Some.is c.next.ensures.steps
 
 pub add_line-requires : goal.add_line-requires
-add_line-requires c = every_at bounded c.args.lines.now c.loop-i.i no_line (usable_facts c.args.lines.now c.args.plan.now c.requires).sound c.loop-i-test.true
+add_line-requires c =
+    let t = turn (goal.at.add_line-requires c).In-Some in
+    subst (λ l. bounded l ≡ true) (sym (t.2 no_line)) (every_at bounded c.args.lines.now _ no_line (usable_facts c.args.lines.now c.args.plan.now c.requires).sound t.0)
 
-pub loop-i-preserved : goal.loop-i-preserved
-loop-i-preserved c m n =
-    let ls = c.args.lines.now in
-    let xs = c.args.plan.now in
-    let i = c.loop-i.i in
-    let least = to_z w32 (of_z w32 c.args.least) in
-    let u = usable_facts ls xs c.requires in
-    let h = c.loop-i-test.true in
-    let k : i < length xs = omega (arith, u.long) in
-    let fx : SFits w32 (get_or xs i (pos 0)) = search rules in
-    c.add_line.ensures m n
-    ∙ ap (λ t. t || leads (moved (get_or ls i no_line) (to_z w32 (of_z w32 (get_or xs i (pos 0))))) least m n) (c.loop-i.invariant m n)
-    ∙ ap (λ t. any_leads (take i (booked ls xs)) least m n || leads (moved (get_or ls i no_line) t) least m n) (to_z-of_z w32 _ fx)
-    ∙ ap (λ t. any_leads (take i (booked ls xs)) least m n || leads t least m n) (sym (booked_at ls xs i h k))
-    ∙ sym (any_more (booked ls xs) least m n i (omega (arith, length_booked ls xs)))
+pub loop-line-preserved : goal.loop-line-preserved
+loop-line-preserved c m n =
+    let t = turn (goal.at.loop-line-preserved c).In-Some in
+    let f : SFits w32 c.in-Some.planned.now = search rules in
+    let e = simp to_z-of_z at c.add_line.ensures m n in
+    let s = any_more c.args.lines.now c.args.plan.now (pos c.args.least) m n (length c.loop-line.yielded) c.in-Some.line.now c.in-Some.planned.now _ _ t.0 t.1 t.2 t.3 (c.loop-line.invariant m n) e in
+    search (rules, length-append)
+
+-- every line was gone over
+all : (c : In-None) (m n : ℕ) → reaches c.loop-line.rows m n ≡ any_leads (booked c.args.lines.now c.args.plan.now) (pos c.args.least) m n
+all c m n =
+    let u = usable_facts c.args.lines.now c.args.plan.now c.requires in
+    let e = zip_end c.args.lines.now c.args.plan.now c.loop-line.yielded c.into_iter-line-iterator.result c.loop-line.line-iterator c.next.new.self c.next.result
+    (search rules) (search rules) c.loop-line.yielded_by c.in-None.is c.next.ensures.steps in
+    c.loop-line.invariant m n ∙ ap (λ t. any_leads t (pos c.args.least) m n) (take_all (length c.loop-line.yielded) (booked c.args.lines.now c.args.plan.now) (omega (arith, e, u.long, length_booked c.args.lines.now c.args.plan.now)))
 
 pub returns : goal.returns
-returns c =
-    let ls = c.args.lines.now in
-    let xs = c.args.plan.now in
-    let least = c.args.least in
-    let f = to_z-of_z w32 _ c.ranges.least in
-    let all = take_all c.loop-i.i (booked ls xs) (omega (arith, length_booked ls xs, c.loop-i-test.false)) in
-    record {
-      sound = λ m n h. any_step (booked ls xs) least m n (sym (c.loop-i.invariant m n ∙ ap (λ t. any_leads t (to_z w32 (of_z w32 least)) m n) all ∙ ap (λ t. any_leads (booked ls xs) t m n) f) ∙ h);
-      complete = λ m n s. c.loop-i.invariant m n ∙ ap (λ t. any_leads t (to_z w32 (of_z w32 least)) m n) all ∙ ap (λ t. any_leads (booked ls xs) t m n) f ∙ step_any (booked ls xs) least m n s.0 s.1;
-    }
+returns c = record {
+  sound = λ m n h. any_step (booked c.args.lines.now c.args.plan.now) (pos c.args.least) m n (sym (all c m n) ∙ h);
+  complete = λ m n s. all c m n ∙ step_any (booked c.args.lines.now c.args.plan.now) (pos c.args.least) m n s;
+}

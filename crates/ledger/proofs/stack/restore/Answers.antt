@@ -1,4 +1,4 @@
-use Rattle.std.proofs.Common.{◌<◌, length, get_or, pos, sym, ◌∙◌, arith, w32, SFits, rules}
+use Rattle.std.proofs.Common.{get_or, pos, sym, ◌∙◌, arith, w32, SFits, rules}
 use Rattle.std.proofs.lemmas.Int.{to_z-of_z}
 use Rattle.credit.specs.Net.{no_line}
 use Rattle.ledger.proofs.Restores.{overlay_none, overlay_more, overlay_all}
@@ -9,13 +9,11 @@ loop-i-init c = sym (overlay_none c.args.lines.now)
 
 pub loop-i-preserved : goal.loop-i-preserved
 loop-i-preserved c =
-    let ls = c.args.lines.now in
     let xs = c.args.saved.now in
     let i = c.loop-i.i in
-    let k : i < length xs = omega arith in
     let f : SFits w32 (get_or xs i (pos 0)) = search rules in
     let z = to_z-of_z w32 (get_or xs i (pos 0)) f in
-    let more = overlay_more ls xs i no_line (pos 0) c.loop-i-test.true k in
+    let more = overlay_more c.args.lines.now xs i no_line (pos 0) c.loop-i-test.true (omega arith) in
     cc
 
 pub returns : goal.returns

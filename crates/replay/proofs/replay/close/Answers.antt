@@ -18,8 +18,8 @@ returns-in_err-lines g c = record { law = law; run = search rules }
 pub loop-call-preserved : goal.loop-call-preserved
 loop-call-preserved g c =
     let h : c.loop-call.call-index < length c.args.calls.now = omega arith in (
-      c.serve-served.ensures.genuine,
-      recorded_push _ _ _ _ _ _ _ _ _ c.loop-call.invariant.1 c.serve-served.ensures.does c.net_positions-nets.ensures (take_more c.args.calls.now c.loop-call.call-index _ h) c.push_reserved.ensures.items,
+      c.serve-answer.ensures.genuine,
+      recorded_push _ _ _ _ _ _ _ _ _ c.loop-call.invariant.1 c.serve-answer.ensures.does c.net_positions-nets.ensures (take_more c.args.calls.now c.loop-call.call-index _ h) c.push_reserved.ensures.items,
       omega arith,
       omega arith,
     )

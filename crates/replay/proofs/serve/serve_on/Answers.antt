@@ -1,10 +1,10 @@
-use Rattle.std.proofs.Common.{length, ℤ, refl, ap, subst, subst₂, w32, SFits, rules}
+use Rattle.std.proofs.Common.{length, ℤ, refl, ap, subst₂, w32, SFits, rules}
 use Rattle.std.proofs.lemmas.Int.{to_z-of_z}
 use Rattle.calls.specs.declared.call.Call.{Call}
-use Rattle.calls.specs.declared.call.Call.TheVariants.{Open, Pay, Begin, End, Abandon, Tidy}
+use Rattle.calls.specs.declared.call.Call.TheVariants.{Open, Pay, Begin, End, Abandon}
+use Rattle.calls.specs.Answers.{done_or}
 use Rattle.ledger.specs.States.{state_of}
 use Rattle.ledger.specs.Calls.{Does}
-use Rattle.calls.specs.Answers.{done_or}
 use Rattle.replay.specs.Tokens.{on_sheet}
 use Rattle.replay.proofs.Holding.{served_quietly}
 use Rattle.replay.proofs.serve.serve_on.Goals as goal
@@ -14,22 +14,10 @@ returns-in-Open g c =
     let f : SFits w32 c.in-Open.trust = search rules in
     let h : SFits w32 c.in-Open.back = search rules in
     let d = subst₂ (λ (t u : ℤ). Does (state_of c.args.ledger.now) (Open c.in-Open.first c.in-Open.second t u) (done_or c.open.result) (state_of c.open.new.self)) (to_z-of_z w32 c.in-Open.trust f) (to_z-of_z w32 c.in-Open.back h) c.open.ensures.answer in
-    served_quietly _ _ (Open c.in-Open.first c.in-Open.second c.in-Open.trust c.in-Open.back) _ _ _ c.args.held c.requires (ap (λ (v : Call). on_sheet v (length c.args.sheet.now)) c.in-Open.is) refl c.done_or.ensures d
+    served_quietly _ _ (Open c.in-Open.first c.in-Open.second c.in-Open.trust c.in-Open.back) _ _ _ c.args.held c.requires (ap (λ (v : Call). on_sheet v (length c.args.sheet.now)) c.in-Open.is) refl c.from.ensures d
 
 pub returns-in-Pay : goal.returns-in-Pay
-returns-in-Pay g c =
-    let f : SFits w32 c.in-Pay.amount = search rules in
-    let d = subst (λ (n : ℤ). Does (state_of c.args.ledger.now) (Pay (length c.args.sheet.now) c.in-Pay.payer c.in-Pay.payee n) (done_or c.pay.result) (state_of c.pay.new.self)) (to_z-of_z w32 c.in-Pay.amount f) c.pay.ensures.answer in
-    served_quietly _ _ (Pay (length c.args.sheet.now) c.in-Pay.payer c.in-Pay.payee c.in-Pay.amount) _ _ _ c.args.held c.requires (ap (λ (v : Call). on_sheet v (length c.args.sheet.now)) c.in-Pay.is) refl c.done_or-in-Pay.ensures d
+returns-in-Pay g c = served_quietly _ _ (Pay (length c.args.sheet.now) c.in-Pay.payment) _ _ _ c.args.held c.requires (ap (λ (v : Call). on_sheet v (length c.args.sheet.now)) c.in-Pay.is) refl c.from-in-Pay.ensures c.pay.ensures.answer
 
 pub returns-in-Begin : goal.returns-in-Begin
-returns-in-Begin g c = served_quietly _ _ Begin _ _ _ c.args.held c.requires (ap (λ (v : Call). on_sheet v (length c.args.sheet.now)) c.in-Begin.is) refl c.done_or-in-Begin.ensures c.begin.ensures.answer
-
-pub returns-in-End : goal.returns-in-End
-returns-in-End g c = served_quietly _ _ End _ _ _ c.args.held c.requires (ap (λ (v : Call). on_sheet v (length c.args.sheet.now)) c.in-End.is) refl c.closed_or.ensures c.end.ensures.answer
-
-pub returns-in-Abandon : goal.returns-in-Abandon
-returns-in-Abandon g c = served_quietly _ _ Abandon _ _ _ c.args.held c.requires (ap (λ (v : Call). on_sheet v (length c.args.sheet.now)) c.in-Abandon.is) refl c.closed_or-in-Abandon.ensures c.abandon.ensures.answer
-
-pub returns-in-Tidy : goal.returns-in-Tidy
-returns-in-Tidy g c = served_quietly _ _ Tidy _ _ _ c.args.held c.requires (ap (λ (v : Call). on_sheet v (length c.args.sheet.now)) c.in-Tidy.is) refl refl c.tidy.ensures.answer
+returns-in-Begin g c = served_quietly _ _ Begin _ _ _ c.args.held c.requires (ap (λ (v : Call). on_sheet v (length c.args.sheet.now)) c.in-Begin.is) refl c.from-in-Begin.ensures c.begin.ensures.answer

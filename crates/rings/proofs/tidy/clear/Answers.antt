@@ -1,25 +1,18 @@
 use Rattle.std.proofs.Common.{arith}
-use Rattle.rings.proofs.Clearing.{reached_none, reached_then, reached_keeps}
+use Rattle.rings.proofs.Clearing.{reached_none, reached_then, reached_keeps, reached_one, over_nearer}
 use Rattle.rings.proofs.tidy.clear.Goals as goal
 
-pub loop-init : goal.loop-init
-loop-init c = reached_none c.args.lines.now
+pub loop-chain-init : goal.loop-chain-init
+loop-chain-init c = record { reached = reached_none c.args.lines.now; bounds = c.requires.bounds; pairs = c.requires.pairs }
 
-pub cancel_over-requires : goal.cancel_over-requires
-cancel_over-requires c =
-    let k = reached_keeps c.args.lines.now c.loop.lines c.requires.pairs c.requires.bounds c.loop.invariant in
-    record { place = omega arith; bounds = k.bounds; pairs = k.pairs }
+pub loop-chain-smaller : goal.loop-chain-smaller
+loop-chain-smaller c =
+    let v = c.loop-chain.invariant in
+    over_nearer c.loop-chain.lines c.cancel.new.lines c.args.i c.in-Some.chain.members.items c.cancel.result v.pairs v.bounds (omega arith) c.in-Some.ensures c.cancel.ensures.ring c.cancel.ensures.lowered
 
-pub loop-preserved : goal.loop-preserved
-loop-preserved c = reached_then c.args.lines.now c.loop.lines c.cancel_over.new.lines c.loop.invariant c.cancel_over.ensures.reached
-
-pub loop-smaller : goal.loop-smaller
-loop-smaller c = c.cancel_over.ensures.fallen c.loop-test.true
-
-pub returns : goal.returns
-returns c =
-    let e = c.cancel_over.ensures in
-    record {
-      reached = reached_then c.args.lines.now c.loop.lines c.cancel_over.new.lines c.loop.invariant e.reached;
-      clear = e.clear c.loop-test.false;
-    }
+pub loop-chain-preserved : goal.loop-chain-preserved
+loop-chain-preserved c =
+    let v = c.loop-chain.invariant in
+    let r = reached_one c.loop-chain.lines c.cancel.new.lines c.in-Some.chain.members.items c.cancel.result c.cancel.ensures.ring c.cancel.ensures.lowered in
+    let k = reached_keeps c.loop-chain.lines c.cancel.new.lines v.pairs v.bounds r in
+    record { reached = reached_then c.args.lines.now c.loop-chain.lines c.cancel.new.lines v.reached r; bounds = k.bounds; pairs = k.pairs }

@@ -12,8 +12,8 @@ use Rattle.routing.proofs.direct.direct_share.Goals.{In_ok-place}
 -- the line of that place is among the lines, and there are few
 at : (c : In_ok-place) → (c.in_ok-place.place < length c.args.lines.now) × (length c.args.lines.now ≤ 256) × (length c.args.lines.now ≤ length c.args.plan.now)
 at c =
-    let f = passed_facts c.args.lines.now c.args.payer c.args.payee c.args.amount c.args.plan.now c.requires in
-    ((first_at c.args.payer c.args.payee c.args.lines.now c.in_ok-place.place (sym c.in_ok-place.ensures)).0, f.few, f.long)
+    let f = passed_facts c.args.lines.now c.args.payment c.args.plan.now c.requires in
+    ((first_at c.args.payment.payer c.args.payment.payee c.args.lines.now c.in_ok-place.place (sym c.in_ok-place.ensures)).0, f.few, f.long)
 
 pub offset_bounds-lines-place : goal.offset_bounds-lines-place
 offset_bounds-lines-place c = let a = at c in search rules
@@ -32,8 +32,8 @@ share_on-requires c =
     let ls = c.args.lines.now in
     let xs = c.args.plan.now in
     let i = c.in_ok-place.place in
-    let f = passed_facts ls c.args.payer c.args.payee c.args.amount xs c.requires in
-    let h = (first_at c.args.payer c.args.payee ls i (sym c.in_ok-place.ensures)).0 in
+    let f = passed_facts ls c.args.payment xs c.requires in
+    let h = (first_at c.args.payment.payer c.args.payment.payee ls i (sym c.in_ok-place.ensures)).0 in
     let k : i < length xs = omega (arith, f.long) in
     let x : SFits w32 (get_or xs i (pos 0)) = search rules in
     record {

@@ -1,6 +1,7 @@
-use Rattle.std.proofs.Common.{replicate, sym, subst, arith}
+use Rattle.std.proofs.Common.{◌≡◌, ◌+◌, replicate, sym, subst, arith}
+use Rattle.search.specs.Answers.{steps}
 use Rattle.search.specs.Chains.{IsShortest}
-use Rattle.search.proofs.Distances.{starts, grows, closes, fits, arrives}
+use Rattle.search.proofs.Distances.{starts, grows, closes, arrives}
 use Rattle.search.proofs.Tracing.{none_yet}
 use Rattle.search.proofs.breadth_first.shortest.Goals as goal
 
@@ -16,36 +17,15 @@ pub returns-then-next-eq0 : goal.returns-then-next-eq0
 returns-then-next-eq0 g c =
     closes (g.G.Graph.steps c.args.graph.now) c.args.start c.args.goal _ _ _ _ c.loop-next.invariant _ _ c.in-Some.ensures c.if-next-eq0.true
 
-pub overflow_add-level : goal.overflow_add-level
-overflow_add-level g c =
-    let f = fits (g.G.Graph.steps c.args.graph.now) c.args.start c.args.goal _ _ _ _ c.loop-next.invariant c.requires.to in
-    omega (arith, f)
-
-pub loop-next-smaller : goal.loop-next-smaller
-loop-next-smaller g c =
-    let f = fits (g.G.Graph.steps c.args.graph.now) c.args.start c.args.goal _ _ _ _ c.loop-next.invariant c.requires.to in
-    omega (arith, f)
-
 pub loop-next-preserved : goal.loop-next-preserved
 loop-next-preserved g c =
     grows (g.G.Graph.steps c.args.graph.now) c.args.start c.args.goal _ _ _ _ c.loop-next.invariant _ _ _ c.in-Some.ensures
-    (omega arith) c.if-next-eq0.false c.union-seen.ensures
-
-pub overflow_add-level-2 : goal.overflow_add-level-2
-overflow_add-level-2 g c =
-    let f = fits (g.G.Graph.steps c.args.graph.now) c.args.start c.args.goal _ _ _ _ c.loop-next.invariant c.requires.to in
-    omega (arith, f)
-
-pub trace-requires-2 : goal.trace-requires-2
-trace-requires-2 g c =
-    record {
-      member = c.requires.to;
-      short = fits (g.G.Graph.steps c.args.graph.now) c.args.start c.args.goal _ _ _ _ c.loop-next.invariant c.requires.to;
-      members = c.in_default.ensures.small;
-    }
+    (omega arith) c.if-next-eq0.false c.union-seen.ensures c.requires.to
 
 pub returns : goal.returns
 returns g c =
     let S = g.G.Graph.steps c.args.graph.now in
-    subst (λ k. IsShortest S c.args.start c.args.goal c.trace-2.result.members k) (sym c.trace-2.ensures.count)
-    (arrives S c.args.start c.args.goal _ _ _ _ c.loop-next.invariant _ c.in_default.ensures c.requires.to _ c.trace-2.ensures.traced)
+    let t = c.trace-2.ensures in
+    let e : steps c.trace-2.result ≡ c.loop-next.level + 1 = omega (arith, t.long) in
+    subst (λ k. IsShortest S c.args.start c.args.goal c.trace-2.result.members.items k) (sym e)
+    (arrives S c.args.start c.args.goal _ _ _ _ c.loop-next.invariant _ c.in_default.ensures c.requires.to _ t)

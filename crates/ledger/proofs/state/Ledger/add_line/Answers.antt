@@ -1,15 +1,15 @@
-use Rattle.std.proofs.Common.{◌≡◌, ℕ, List, [], ◌∷◌, ◌++◌, length, ℤ, vec_items, ap, ◌∙◌, ap₂, arith, w32, SFits, to_z, of_z}
+use Rattle.std.proofs.Common.{◌≡◌, ℕ, List, [], ◌∷◌, ◌++◌, ℤ, vec_items, ap, ◌∙◌, ap₂, arith, w32, SFits, to_z, of_z}
 use Rattle.std.proofs.lemmas.Int.{to_z-of_z}
 use Rattle.credit.specs.declared.line.Line.{Line}
 use Rattle.credit.specs.Sums.{every}
 use Rattle.credit.specs.Net.{bounded}
 use Rattle.credit.specs.Pairs.{distinct}
-use Rattle.ledger.specs.Sound.{restorable}
+use Rattle.ledger.specs.Sound.{complete, restorable}
 use Rattle.ledger.specs.States.{state_of}
 use Rattle.ledger.specs.Calls.{new_line}
 use Rattle.ledger.proofs.Opens.{openable, opened_bounds, opened_pairs}
 use Rattle.ledger.proofs.Steps.{unstrained_none}
-use Rattle.ledger.proofs.Closes.{open_none, opened_shown}
+use Rattle.ledger.proofs.Stacks.{open_none}
 use Rattle.ledger.proofs.state.Ledger.add_line.Goals as goal
 
 -- the lines with the new one behind
@@ -39,20 +39,8 @@ invariant_of-self c =
       pairs = ap distinct e ∙ opened_pairs (state_of s) x y t u o s.pairs;
       shallow = s.shallow;
       deep = s.deep;
-      kept = ap (restorable ks) (open_none (length ls) (vec_items s.savepoints) o.none);
+      complete = ap (complete ks) (open_none (vec_items s.savepoints) o.none);
+      kept = ap (restorable ks) (open_none (vec_items s.savepoints) o.none);
       proper = s.proper;
       fitting = λ g. unstrained_none s.standing g ks o.vacant;
     }
-
-pub returns : goal.returns
-returns c =
-    let s = c.args.self.now in
-    let ls = vec_items s.lines in
-    let x = c.args.first in
-    let y = c.args.second in
-    let t = c.args.trust in
-    let u = c.args.back in
-    let ks = vec_items c.push_reserved.new.self in
-    opened_shown ls ks (vec_items s.savepoints) s.standing x y t u
-    (pushed ks ls c.new_line.result x y t u c.ranges.trust c.ranges.back c.push_reserved.ensures.items c.new_line.ensures)
-    (openable (state_of s) x y t u c.requires).none

@@ -2,7 +2,7 @@ use Rattle.std.proofs.Common.{◌+◌, ℤ, sym, refl, subst, inl, inr, arith, w
 use Rattle.std.proofs.lemmas.Int.{to_z-of_z}
 use Rattle.credit.specs.Net.{no_line, bounded}
 use Rattle.credit.proofs.Sums.{every_at}
-use Rattle.rings.specs.Rounds.{party}
+use Rattle.rings.specs.Parties.{party}
 use Rattle.rings.proofs.Lowering.{Least, least_none, least_more}
 use Rattle.rings.proofs.Clearing.{ring_least}
 use Rattle.rings.proofs.ring.Ring.least.Goals as goal
@@ -11,7 +11,7 @@ pub loop-line-init : goal.loop-line-init
 loop-line-init c = least_none (party c.args.self.now) c.args.lines.now _ refl
 
 pub least_on-least-requires : goal.least_on-least-requires
-least_on-least-requires c = record { table = c.requires.table; bounds = every_at bounded c.args.lines.now c.loop-line.line-index no_line c.requires.bounds c.loop-line-test.true }
+least_on-least-requires c = every_at bounded c.args.lines.now c.loop-line.line-index no_line c.requires.bounds c.loop-line-test.true
 
 pub loop-line-preserved : goal.loop-line-preserved
 loop-line-preserved c =
@@ -23,9 +23,8 @@ loop-line-preserved c =
 pub returns : goal.returns
 returns c =
     let l = c.loop-line.invariant in
-    let s = c.args.self.now.chain in
     record {
-      ring = ring_least c.args.lines.now s.members s.steps c.requires.pairs c.requires.bounds c.requires.rounds _ (λ j h. l.under j (omega arith))
+      ring = ring_least c.args.lines.now (party c.args.self.now) c.requires.pairs c.requires.bounds c.requires.rounds _ (λ j h. l.under j (omega arith))
           (elim l.met [ inl e ↦ inl e | inr m ↦ inr (m.0, omega (arith, m.1), m.2) ]);
       most = l.most;
     }

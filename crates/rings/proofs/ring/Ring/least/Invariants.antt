@@ -1,4 +1,4 @@
-use Rattle.rings.specs.Rounds.{party}
+use Rattle.rings.specs.Parties.{party}
 use Rattle.rings.proofs.Lowering.{Least}
 use Rattle.rings.proofs.ring.Ring.least.Given as goal
 

@@ -5,17 +5,17 @@ use Rattle.rings.proofs.ring.Ring.least_on.Goals as goal
 
 pub leads-requires : goal.leads-requires
 leads-requires c =
-    let f = bounded_facts c.args.line c.requires.bounds in
-    record { table = c.requires.table; debtor = f.high; creditor = omega (arith, f.order, f.high) }
+    let f = bounded_facts c.args.line c.requires in
+    record { debtor = f.high; creditor = omega (arith, f.order, f.high) }
 
 pub leads-requires-2 : goal.leads-requires-2
 leads-requires-2 c =
-    let f = bounded_facts c.args.line c.requires.bounds in
-    record { table = c.requires.table; debtor = omega (arith, f.order, f.high); creditor = f.high }
+    let f = bounded_facts c.args.line c.requires in
+    record { debtor = omega (arith, f.order, f.high); creditor = f.high }
 
 pub returns : goal.returns
 returns c =
-    let f = bounded_facts c.args.line c.requires.bounds in
+    let f = bounded_facts c.args.line c.requires in
     let p = c.lesser-least.ensures in
     let q = c.lesser.ensures in
     record {

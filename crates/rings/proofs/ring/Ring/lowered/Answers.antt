@@ -4,19 +4,19 @@ use Rattle.credit.specs.Sums.{only}
 use Rattle.credit.specs.Plans.{with_debt}
 use Rattle.credit.proofs.Bounds.{bounded_facts}
 use Rattle.rings.specs.Rings.{on, steps}
-use Rattle.rings.specs.Rounds.{party}
+use Rattle.rings.specs.Parties.{party}
 use Rattle.rings.proofs.Lowering.{only_within}
 use Rattle.rings.proofs.ring.Ring.lowered.Goals as goal
 
 pub leads-requires : goal.leads-requires
 leads-requires c =
     let f = bounded_facts c.args.line c.requires.bounds in
-    record { table = c.requires.table; debtor = f.high; creditor = omega (arith, f.order, f.high) }
+    record { debtor = f.high; creditor = omega (arith, f.order, f.high) }
 
 pub leads-requires-2 : goal.leads-requires-2
 leads-requires-2 c =
     let f = bounded_facts c.args.line c.requires.bounds in
-    record { table = c.requires.table; debtor = omega (arith, f.order, f.high); creditor = f.high }
+    record { debtor = omega (arith, f.order, f.high); creditor = f.high }
 
 pub overflow_add-line : goal.overflow_add-line
 overflow_add-line c =

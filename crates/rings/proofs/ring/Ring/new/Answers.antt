@@ -1,17 +1,42 @@
-use Rattle.std.proofs.Common.{◌≡◌, ℕ, refl, subst, arith}
-use Rattle.rings.proofs.Stepping.{Linking, linking_none, linking_more, linking_all}
+use Rattle.std.proofs.Common.{◌≡◌, ◌-◌, ◌<◌, ℕ, length, None, replicate, subst, ap, ◌∙◌, rules, arith}
+use Rattle.std.specs.Slice.Iter.{windows_rest, windows_size}
+use Rattle.std.proofs.lemmas.Iterator.{window_more}
+use Rattle.rings.proofs.Stepping.{Linking, linking_none, linking_next, linking_shut}
+use Rattle.rings.proofs.ring.Ring.new.Goals.{in_default, in-len2-up}
 use Rattle.rings.proofs.ring.Ring.new.Goals as goal
 
-pub loop-i-init : goal.loop-i-init
-loop-i-init c = linking_none c.args.chain.members
-
-pub loop-i-preserved : goal.loop-i-preserved
-loop-i-preserved c = linking_more c.args.chain.members c.loop-i.creditors c.args.chain.steps c.loop-i.i c.requires c.loop-i-test.true c.loop-i.invariant
-
-pub returns : goal.returns
-returns c =
-    let e : c.loop-i.i ≡ c.args.chain.steps = omega arith in
+pub loop-step-init : goal.loop-step-init
+loop-step-init c =
+    let xs = c.args.chain.members.items in
+    let e : windows_rest c.into_iter-step-iterator.result ≡ xs = ap windows_rest c.into_iter-step-iterator.ensures.into_iter_gives ∙ c.windows-step-items.ensures.rest ∙ c.deref.ensures.0 in
+    let n : length (windows_rest c.into_iter-step-iterator.result) ≡ length xs = ap length e in
+    let z : 0 ≡ length xs - length (windows_rest c.into_iter-step-iterator.result) = omega arith in
     record {
-      same = refl;
-      links = linking_all c.args.chain.members c.loop-i.creditors c.args.chain.steps c.requires (subst (λ (i : ℕ). Linking c.args.chain.members c.loop-i.creditors i) e c.loop-i.invariant);
+      two = search rules;
+      some = omega arith;
+      short = omega arith;
+      left = search rules;
+      linked = subst (λ (i : ℕ). Linking xs (replicate 64 None) i) z (linking_none xs);
     }
+
+pub loop-step-preserved : goal.loop-step-preserved
+loop-step-preserved c =
+    let v = c.loop-step.invariant in
+    let xs = c.args.chain.members.items in
+    let h = window_more xs c.loop-step.step-iterator c.next.new.self _ _ c.in-Some.is c.next.ensures.steps (omega arith) v.short v.left in
+    record {
+      two = search rules;
+      some = omega arith;
+      short = omega arith;
+      left = h.1;
+      linked = linking_next xs c.loop-step.creditors _ _ _ _ c.requires.apart (omega arith) v.linked (omega arith) (h.3 0 0 (omega arith)) (h.3 1 0 (omega arith));
+    }
+
+pub invariant_of-result : goal.invariant_of-result
+invariant_of-result c =
+    let v = c.loop-step.invariant in
+    let last : length (windows_rest c.loop-step.step-iterator) < windows_size c.loop-step.step-iterator = c.in-None.ensures.steps.1.0 in
+    elim c.if-as_slice-lt2.branch [
+      | in_default w ↦ let e = ap length c.as_slice.ensures.value in absurd (omega (arith, e))
+      | in-len2-up w ↦ record { table = linking_shut _ _ _ _ _ c.requires.apart (omega arith) v.linked c.as_slice.ensures.value w.creditors-is }
+    ]

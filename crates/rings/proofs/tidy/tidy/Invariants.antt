@@ -1,0 +1,6 @@
+use Rattle.std.proofs.Common.{ℕ, ◌<◌}
+use Rattle.rings.specs.Rounds.{Reached, Clear}
+use Rattle.rings.proofs.tidy.tidy.Given as goal
+
+abbrev pub invariant-loop-i : goal.invariant-loop-i
+invariant-loop-i l = Reached l.initial.lines l.lines × ((j : ℕ) → j < l.i → Clear l.lines j)
