@@ -4,7 +4,7 @@ use Rattle.std.specs.Fmt.{signed_decimal}
 use Rattle.std.specs.List.{flat_map}
 use Rattle.members.specs.Groups.{members_of}
 use Rattle.credit.specs.declared.refusal.Refusal.{Refusal}
-use Rattle.credit.specs.declared.refusal.Refusal.TheVariants.{LineTooLong, UnknownForm, WrongParts, NotANumber, NoSuchMember, SameMember, OutOfRange, ReservationStands, Spoiled, PairHasLine, TooManyLines, SavepointOpen, TooManySavepoints, NoSavepoint, NoSuchReservation, WantOfRoom, BadPlanSheet, LeftOpen, BufferTooShort, BatchTooLong}
+use Rattle.credit.specs.declared.refusal.Refusal.TheVariants.{WantOfRoom, BufferTooShort}
 use Rattle.credit.specs.Refusals.{number_of}
 use Rattle.batch.specs.declared.sheet.SheetLine.{SheetLine}
 use Rattle.batch.specs.declared.sheet.SheetLine.TheVariants.{Done, Kept, Undone, Refused, Net, Debt, End}
@@ -20,26 +20,8 @@ listed (m ∷ ms) = codes " " ++ (decimal m ++ listed ms)
 
 -- what a refusal tells beside its number: for want of room, the room of the group and its members, rising
 abbrev pub remark : Refusal → List ℕ
-remark LineTooLong = []
-remark UnknownForm = []
-remark WrongParts = []
-remark NotANumber = []
-remark NoSuchMember = []
-remark SameMember = []
-remark OutOfRange = []
-remark ReservationStands = []
-remark Spoiled = []
-remark PairHasLine = []
-remark TooManyLines = []
-remark SavepointOpen = []
-remark TooManySavepoints = []
-remark NoSavepoint = []
-remark NoSuchReservation = []
 remark (WantOfRoom group room) = codes " " ++ (signed_decimal room ++ listed (members_of group.bits))
-remark BadPlanSheet = []
-remark LeftOpen = []
-remark BufferTooShort = []
-remark BatchTooLong = []
+remark e = []
 
 abbrev pub line_text : SheetLine → List ℕ
 line_text (Done l) = codes "(ok " ++ (decimal l ++ close)

@@ -15,7 +15,7 @@ fn count(bytes: &[u8], stop: u8) -> usize
     bytes.split(|b| *b == stop).count()
 }
 
-// Reads the numbers between the spaces, of which there are as many as places.
+// Reads the numbers between the spaces, one into each place. In `parts` itself, with its const parameter, no `for` over the pieces is accepted.
 fn read(body: &[u8], places: &mut [u32]) -> Option<()>
     requires { length (cut 32 body.now) ≡ length places.old }
     ensures value { option_map (λ _. places.new) result ≡ numbers_of (cut 32 body.now) }

@@ -12,12 +12,11 @@ use credit::refusal::Refusal;
 // The most bytes of a line, its line feed apart.
 pub const LONGEST_LINE: usize = 40;
 
-// The payment that the three parts of a form write.
+// The payment that the three parts of a form write. Each part is below 10,000,000, so `as` keeps it.
 fn payment(rest: &[u8]) -> Result<Payment, Refusal>
     ensures { result ≡ filled payment_of (parts_of 3 rest.now) }
 {
     let [payer, payee, amount] = parts::<3>(rest)?;
-    // it has at most seven digits: `try_from` would bring an error that cannot come
     Ok(Payment {
         payer,
         payee,
@@ -58,7 +57,7 @@ fn shape(line: &[u8]) -> Result<Form, Refusal>
     }
 }
 
-// The form that a line of a batch is, without its line feed.
+// The form that a line of a batch is, without its line feed. As a `TryFrom` it would be the same call under a longer name.
 pub fn form(line: &[u8]) -> Result<Form, Refusal>
     ensures { result ≡ form_of line.now }
 {

@@ -24,7 +24,8 @@ use routing::router::Router;
 use std::ops::ControlFlow;
 
 // The ledger that a batch is carried out on, the routers that it picks from, the plan sheet that they fill, and the lines at
-// which its open groups of payments begin.
+// which its open groups of payments begin. Each method keeps the reference to the ledger, so that a caller knows the ledger
+// once the run is over.
 #[derive(Drop)]
 pub(crate) struct Run<'l, 'r, R: Router + Picks> {
     ledger: &'l mut Ledger,

@@ -8,20 +8,15 @@ use Rattle.credit.specs.declared.refusal.Refusal.TheVariants.{WantOfRoom, LeftOp
 use Rattle.credit.specs.Refusals.{number_of}
 use Rattle.credit.specs.Sentences.{sentence}
 use Rattle.batch.specs.declared.form.Form.{Form}
-use Rattle.batch.specs.declared.form.Form.TheVariants.{Line, Pay, Try, Tidy, Route, All, Close}
+use Rattle.batch.specs.declared.form.Form.TheVariants.{Pay, Try}
 use Rattle.explain.specs.Asks.{lead_of}
 use Rattle.explain.specs.Words.{minutes_of, names_of}
 
 -- the amount that a form asks to pay
 abbrev pub amount_of : Option Form → Option ℤ
-amount_of None = None
-amount_of (Some (Line a b t u)) = None
 amount_of (Some (Pay pay)) = Some pay.amount
 amount_of (Some (Try pay)) = Some pay.amount
-amount_of (Some Tidy) = None
-amount_of (Some (Route c)) = None
-amount_of (Some All) = None
-amount_of (Some Close) = None
+amount_of form = None
 
 -- by how much an amount passes a room, where there is one
 abbrev pub lack_of : Option ℤ → ℤ → List ℕ

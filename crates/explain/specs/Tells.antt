@@ -3,7 +3,7 @@ use Rattle.std.specs.Prelude.{ℕ, cond, List, [], ◌∷◌, ◌++◌, Some, No
 use Rattle.std.specs.List.{flat_map}
 use Rattle.std.specs.Result.{result_ok}
 use Rattle.batch.specs.declared.form.Form.{Form}
-use Rattle.batch.specs.declared.form.Form.TheVariants.{Line, Pay, Try, Tidy, Route, All, Close}
+use Rattle.batch.specs.declared.form.Form.TheVariants.{Try}
 use Rattle.batch.specs.declared.reader.Step.{Step}
 use Rattle.batch.specs.declared.sheet.SheetLine.{SheetLine}
 use Rattle.batch.specs.declared.sheet.SheetLine.TheVariants.{Done, Kept, Undone, Refused, Net, Debt, End}
@@ -13,14 +13,8 @@ use Rattle.explain.specs.Standings.{balance_of, owing_of}
 
 -- what became of a form that was carried out
 abbrev pub outcome_of : Option Form → List ℕ
-outcome_of None = codes "done"
-outcome_of (Some (Line a b t u)) = codes "done"
-outcome_of (Some (Pay pay)) = codes "done"
 outcome_of (Some (Try pay)) = codes "it can"
-outcome_of (Some Tidy) = codes "done"
-outcome_of (Some (Route c)) = codes "done"
-outcome_of (Some All) = codes "done"
-outcome_of (Some Close) = codes "done"
+outcome_of form = codes "done"
 
 -- a line of a sheet, with the form of the batch line that it answers
 abbrev pub sentence_of : Option Form → SheetLine → List ℕ
@@ -43,9 +37,7 @@ form_for ss (Done l) = form_at l ss
 form_for ss (Kept l) = form_at l ss
 form_for ss (Undone l) = form_at l ss
 form_for ss (Refused l e) = form_at l ss
-form_for ss (Net m n) = None
-form_for ss (Debt a b d) = None
-form_for ss End = None
+form_for ss x = None
 
 -- a sheet as sentences, each with a line feed
 abbrev pub explained : List Step → List SheetLine → List ℕ

@@ -74,7 +74,7 @@ impl fmt::Display for Asks {
     }
 }
 
-// The line that a sentence is about, and what it asks where it is a form; line 0 is the whole batch.
+// The line that a sentence is about, and what it asks where it is a form. Line 0 is the whole batch: that is its number on a sheet.
 #[derive(Clone, Copy)]
 pub struct Lead {
     pub line: usize,
@@ -86,7 +86,6 @@ impl fmt::Display for Lead {
 
     fn fmt<W: fmt::Write>(&self, f: &mut fmt::Formatter<W>) -> fmt::Result {
         let line = self.line;
-        // the format's own number for the whole batch, which a sheet line carries
         if line == 0 {
             return write!(f, "The whole batch: ");
         }

@@ -7,7 +7,7 @@ use crate::denial::Denial;
 use crate::standing::{Balance, Owing};
 use batch::form::Form;
 use batch::sheet::SheetLine;
-use std::fmt;
+use std::fmt::{self, Display};
 
 // A line of a sheet, with the form of the batch line that it answers, where that is known.
 #[derive(Clone, Copy)]
@@ -26,7 +26,7 @@ fn outcome(form: Option<Form>) -> &'static str
     }
 }
 
-impl fmt::Display for Sentence {
+impl Display for Sentence {
     ghost output = { λ s. Some (sentence_of s.form s.line) };
 
     fn fmt<W: fmt::Write>(&self, f: &mut fmt::Formatter<W>) -> fmt::Result {
@@ -42,22 +42,14 @@ impl fmt::Display for Sentence {
                 f,
                 "Line {line}: the group of payments is undone."
             ),
-            SheetLine::Refused { line, refusal } => {
-                let denial = Denial {
-                    line,
-                    form,
-                    refusal,
-                };
-                write!(f, "{denial}")
+            SheetLine::Refused { line, refusal } => Denial {
+                line,
+                form,
+                refusal,
             }
-            SheetLine::Net { member, net } => {
-                let balance = Balance { member, net };
-                write!(f, "{balance}")
-            }
-            SheetLine::Debt { a, b, debt } => {
-                let owing = Owing { a, b, debt };
-                write!(f, "{owing}")
-            }
+            .fmt(f),
+            SheetLine::Net { member, net } => Balance { member, net }.fmt(f),
+            SheetLine::Debt { a, b, debt } => Owing { a, b, debt }.fmt(f),
             SheetLine::End => write!(f, "End of the sheet."),
         }
     }

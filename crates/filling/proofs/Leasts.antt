@@ -1,16 +1,21 @@
 -- The least room of a chain, hop by hop.
-use Rattle.std.proofs.Common.{◌≡◌, ℕ, ◌+◌, ◌<◌, List, length, get_or, map, take, ℤ, ◌≤ℤ◌, sym, ap, ◌∙◌, subst, inl, inr, ⊎_elim, arith, rules}
+use Rattle.std.proofs.Common.{◌≡◌, ◌≤◌, true, ℕ, ◌+◌, ◌<◌, List, length, get_or, map, take, ℤ, ◌≤ℤ◌, sym, ap, ◌∙◌, subst, inl, inr, ⊎_elim, arith, rules}
 use Rattle.std.proofs.lemmas.Int.{fold-int_min_bounds, fold-int_min_reached}
 use Rattle.std.proofs.lemmas.List.{get_or_default, get_or-map, length-map}
 use Rattle.std.proofs.lemmas.List.Folds.{fold-map}
 use Rattle.std.proofs.lemmas.List.Sums.{fold_more}
 use Rattle.std.specs.Int.{int_min}
 use Rattle.credit.specs.declared.line.Line.{Line}
-use Rattle.credit.proofs.Booked.{booked_at}
+use Rattle.credit.proofs.Booked.{booked_any, length_booked}
+use Rattle.routing.specs.Meaning.{usable}
+use Rattle.filling.proofs.Filled.{usable_facts}
 use Rattle.filling.specs.declared.chain.Hop.{Hop}
 use Rattle.filling.specs.Fillings.{no_hop, room_over, least_over, Least}
 
-pub ruleset rooms = (rules, booked_at)
+pub usable_long : (ls : List Line) (plan : List ℤ) → usable ls plan ≡ true → length ls ≤ length plan
+usable_long ls plan e = (usable_facts ls plan e).long
+
+pub ruleset rooms = (rules, booked_any, length_booked, usable_long)
 
 abbrev lesser : List Line → ℤ → Hop → ℤ
 lesser ls least h = int_min least (room_over ls h)

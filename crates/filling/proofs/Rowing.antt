@@ -1,5 +1,5 @@
 -- The rows of the room graph, line by line.
-use Rattle.std.proofs.Common.{◌≡◌, ℕ, ◌+◌, ◌<◌, Bool, true, ◌&&◌, ◌||◌, eqb, ltb, ◌≢◌, ◌⊎◌, List, length, get_or, take, ℤ, pos, Ok, Err, Result, sym, refl, ap, ◌∙◌, subst, inl, inr, arith}
+use Rattle.std.proofs.Common.{◌≡◌, ℕ, ◌+◌, ◌<◌, Bool, true, ◌&&◌, ◌||◌, eqb, ltb, ◌≢◌, ◌⊎◌, List, length, get_or, take, ℤ, Ok, Err, Result, sym, refl, ap, ◌∙◌, subst, inl, inr, arith}
 use lib.Signed.{le_z}
 use Rattle.std.proofs.lemmas.Bool.{cases_eq, eq-eqb, ne_eqb, lt-ltb}
 use Rattle.std.proofs.lemmas.Bool.Decides.{nat_tests}
@@ -8,8 +8,7 @@ use Rattle.std.proofs.lemmas.List.Folds.{Any-from_list_any, list_any_at, list_an
 use Rattle.std.specs.List.{list_any}
 use Rattle.credit.specs.declared.line.Line.{Line}
 use Rattle.credit.specs.Net.{no_line}
-use Rattle.credit.specs.Plans.{booked, moved, room_from}
-use Rattle.credit.proofs.Booked.{booked_at, length_booked}
+use Rattle.credit.specs.Plans.{room_from}
 use Rattle.members.specs.declared.group.Group.{Group}
 use Rattle.search.specs.Chains.{IsChain}
 use Rattle.search.specs.Answers.{Answered}
@@ -50,14 +49,10 @@ abbrev pub any_leads : List Line → ℤ → (m n : ℕ) → Bool
 any_leads ls least m n = list_any (λ l. leads l least m n) ls
 
 -- a line more
-pub any_more : (ls : List Line) (xs : List ℤ) (least : ℤ) (m n i : ℕ) (l : Line) (x : ℤ) (r s : Bool) → i < length ls → i < length xs
-    → ((d : Line) → l ≡ get_or ls i d) → ((d : ℤ) → x ≡ get_or xs i d) → r ≡ any_leads (take i (booked ls xs)) least m n
-    → s ≡ (r || leads (moved l x) least m n) → s ≡ any_leads (take (i + 1) (booked ls xs)) least m n
-any_more ls xs least m n i l x r s h k e f g j =
-    j
-    ∙ ap (λ t. t || leads (moved l x) least m n) g
-    ∙ ap (λ t. any_leads (take i (booked ls xs)) least m n || leads t least m n) (ap (λ t. moved t x) (e no_line) ∙ ap (λ t. moved (get_or ls i no_line) t) (f (pos 0)) ∙ sym (booked_at ls xs i h k))
-    ∙ sym (list_any_more (λ t. leads t least m n) (booked ls xs) i no_line (omega (arith, length_booked ls xs)))
+pub any_more : (ls : List Line) (least : ℤ) (m n i : ℕ) (l : Line) (r s : Bool) → i < length ls → l ≡ get_or ls i no_line
+    → r ≡ any_leads (take i ls) least m n → s ≡ (r || leads l least m n) → s ≡ any_leads (take (i + 1) ls) least m n
+any_more ls least m n i l r s h e f g =
+    g ∙ ap (λ t. t || leads l least m n) f ∙ ap (λ t. any_leads (take i ls) least m n || leads t least m n) e ∙ sym (list_any_more (λ t. leads t least m n) ls i no_line h)
 
 -- which is a step
 pub any_step : (ls : List Line) (least : ℤ) (m n : ℕ) → any_leads ls least m n ≡ true → RoomStep ls least m n

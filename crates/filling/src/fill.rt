@@ -9,8 +9,8 @@ ghost use Rattle.routing.specs.Meaning.{usable, router_checks};
 ghost use Rattle.filling.specs.Steps.{RoomStep};
 ghost use Rattle.filling.specs.Fillings.{sent_along, Fills, Closed, Ends};
 
-use crate::chain::{Hop, hops, least_room};
-use crate::graph::reach;
+use crate::booked::Booked;
+use crate::chain::Hop;
 use credit::line::Line;
 use credit::payment::Payment;
 use credit::plan::planned_after;
@@ -37,9 +37,9 @@ fn fill(lines: &[Line], plan: &mut [i32], least: u32, chain: &Chain, rest: Payme
     requires shortest { IsShortest (RoomStep (booked lines.now plan.old) (pos least)) rest.payer rest.payee chain.now.members.items (steps chain.now) }
     ensures { Fills lines.now rest (pos least) plan.old result plan.new }
 {
-    let hops = hops(lines, plan, least, chain);
-    // no more than the amount: `try_from` would bring an error that cannot come
-    let x = least_room(lines, plan, &hops, rest.amount) as i32;
+    let booked = Booked::new(lines, plan);
+    let hops = booked.hops(least, chain);
+    let x = booked.least_room(&hops, rest.amount) as i32;
     send(lines, plan, &hops, x);
     x
 }
@@ -49,7 +49,7 @@ fn fill_next(lines: &[Line], plan: &mut [i32], least: u32, rest: Payment) -> Res
     requires { router_checks lines.now rest plan.old ≡ passes }
     ensures { elim result [ Ok x ↦ Fills lines.now rest (pos least) plan.old x plan.new | Err g ↦ Closed lines.now rest.payer rest.payee (pos least) plan.old g.bits × (plan.new ≡ plan.old) ] }
 {
-    let chain = reach(lines, plan, least, rest)?;
+    let chain = Booked::new(lines, plan).reach(least, rest)?;
     Ok(fill(lines, plan, least, &chain, rest))
 }
 

@@ -1,13 +1,12 @@
 // The members as a graph: a step wherever a line has enough room after a plan.
 ghost use Rattle.std.specs.Prelude.{◌≡◌, ℕ, ◌<◌, true, pos, ◌&&◌, ◌||◌, ◌==◌, int_le, nat_lt};
 ghost use Rattle.credit.specs.Net.{bounded};
-ghost use Rattle.credit.specs.Plans.{booked, moved, room_from};
-ghost use Rattle.credit.specs.Refusals.{passes};
+ghost use Rattle.credit.specs.Plans.{moved, room_from};
 ghost use Rattle.search.specs.Rowed.{reaches};
 ghost use Rattle.search.specs.Answers.{Answered};
-ghost use Rattle.routing.specs.Meaning.{usable, router_checks};
 ghost use Rattle.filling.specs.Steps.{leads, RoomStep};
 
+use crate::booked::Booked;
 use credit::line::Line;
 use credit::payment::Payment;
 use members::group::Group;
@@ -47,36 +46,30 @@ fn add_line(rows: &mut Rows, line: &Line, planned: i32, least: u32)
     add_step(rows, line, planned, least, line.b, line.a);
 }
 
-// The graph whose steps go over lines with room of at least so much. Each line is read once.
-fn room_graph(lines: &[Line], plan: &[i32], least: u32) -> Rows
-    requires { usable lines.now plan.now ≡ true }
-    ensures sound { (m n : ℕ) → reaches result m n ≡ true → RoomStep (booked lines.now plan.now) (pos least) m n }
-    ensures complete { (m n : ℕ) → RoomStep (booked lines.now plan.now) (pos least) m n → reaches result m n ≡ true }
-{
-    let mut rows = Rows::new();
-    for (line, planned) in lines.iter().zip(plan) {
-        add_line(&mut rows, line, *planned, least);
+impl Booked<'_, '_> {
+    // The graph whose steps go over lines with room of at least so much. Each line is read once.
+    fn graph(&self, least: u32) -> Rows
+        ensures sound { (m n : ℕ) → reaches result m n ≡ true → RoomStep self.now (pos least) m n }
+        ensures complete { (m n : ℕ) → RoomStep self.now (pos least) m n → reaches result m n ≡ true }
+    {
+        let mut rows = Rows::new();
+        for (line, planned) in self.lines.iter().zip(self.plan) {
+            add_line(&mut rows, line, *planned, least);
+        }
+        rows
     }
-    rows
-}
 
-// A shortest chain from payer to payee over lines with room of at least so much, or a group that no such line leaves.
-pub(crate) fn reach(
-    lines: &[Line],
-    plan: &[i32],
-    least: u32,
-    payment: Payment,
-) -> Result<Chain, Group>
-    requires { router_checks lines.now payment plan.now ≡ passes }
-    ensures { Answered (RoomStep (booked lines.now plan.now) (pos least)) payment.payer payment.payee result }
-{
-    match search(
-        &room_graph(lines, plan, least),
-        payment.payer,
-        payment.payee,
-    ) {
-        Ok(chain) => Ok(chain),
-        Err(NoChain::Closed(group)) => Err(group),
-        Err(NoChain::NotMembers) => unreachable(),
+    // A shortest chain from payer to payee over lines with room of at least so much, or a group that no such line leaves.
+    pub(crate) fn reach(&self, least: u32, payment: Payment) -> Result<Chain, Group>
+        requires payer { payment.payer < 64 }
+        requires payee { payment.payee < 64 }
+        ensures { Answered (RoomStep self.now (pos least)) payment.payer payment.payee result }
+    {
+        match search(&self.graph(least), payment.payer, payment.payee) {
+            Ok(chain) => Ok(chain),
+            Err(NoChain::Closed(group)) => Err(group),
+            // both are members
+            Err(NoChain::NotMembers) => unreachable(),
+        }
     }
 }

@@ -43,6 +43,7 @@ fn copied(numbers: &[i32]) -> ArrayVec<i32, 256>
 {
     match ArrayVec::try_from(numbers) {
         Ok(copy) => copy,
+        // 256 numbers fit
         Err(_) => unreachable(),
     }
 }

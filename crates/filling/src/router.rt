@@ -1,3 +1,4 @@
+// One router that fills chains from a threshold on, and its two instances.
 ghost use Rattle.std.specs.Prelude.{◌≡◌, ◌≤◌};
 ghost use Rattle.routing.specs.Meaning.{Routes};
 ghost use Rattle.filling.specs.Fillings.{FillsFrom, Breadths, Scales};

@@ -1,6 +1,5 @@
 // Member numbers, 0 to 63, and groups of members.
 #![tactic(auto)]
 
-mod bits;
 pub mod group;
 pub mod walk;

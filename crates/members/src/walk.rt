@@ -3,7 +3,6 @@ ghost use Rattle.members.specs.Groups.{members_of};
 ghost use Rattle.members.specs.Walks.{Walked};
 ghost use Rattle.std.specs.Iterator.{at_most};
 
-use crate::bits;
 use crate::group::Group;
 
 // A walk over the members of a group, rising.
@@ -28,20 +27,10 @@ impl Iterator for Walk {
 
     ghost remaining = { λ w. at_most (length (members_of w.rest.bits)) };
 
+    #[tactic(auto, using(crate::proofs::Listed::took_lowest, crate::proofs::Listed::none_listed))]
     fn next(&mut self) -> Option<u32> {
-        take_lowest(&mut self.rest)
-    }
-}
-
-// Takes the lowest member out of a group.
-fn take_lowest(group: &mut Group) -> Option<u32>
-    ensures { Walked group.old.bits result group.new.bits }
-{
-    match bits::lowest(group.bits) {
-        None => None,
-        Some(member) => {
-            *group = group.without(member);
-            Some(member)
-        }
+        let member = self.rest.lowest()?;
+        self.rest = self.rest.without(member);
+        Some(member)
     }
 }

@@ -50,6 +50,21 @@ impl Ring {
         self.creditors[debtor as usize] == Some(creditor)
     }
 
+    // The lesser of an amount and of what a debtor owes a creditor, where the ring leads from the one to the other.
+    fn lesser(&self, debtor: u32, creditor: u32, owed: i32, amount: i32) -> i32
+        requires debtor { debtor < 64 }
+        requires creditor { creditor < 64 }
+        ensures most { result ≤ℤ amount }
+        ensures under { on debtor creditor (steps_of (party self.now)) ≡ true → result ≤ℤ owed }
+        ensures met { (result ≡ amount) ⊎ ((on debtor creditor (steps_of (party self.now)) ≡ true) × (result ≡ owed)) }
+    {
+        if self.leads(debtor, creditor) {
+            amount.min(owed)
+        } else {
+            amount
+        }
+    }
+
     // The lesser of an amount and of what is owed on a line along the ring.
     fn least_on(&self, line: Line, amount: i32) -> i32
         requires { bounded line ≡ true }
@@ -57,8 +72,8 @@ impl Ring {
         ensures under { Under (party self.now) result line }
         ensures met { (result ≡ amount) ⊎ Met (party self.now) result line }
     {
-        let least = lesser(self.leads(line.b, line.a), line.debt, amount);
-        lesser(self.leads(line.a, line.b), -line.debt, least)
+        let least = self.lesser(line.b, line.a, line.debt, amount);
+        self.lesser(line.a, line.b, -line.debt, least)
     }
 
     // The least that is owed on a step of the ring.
@@ -76,6 +91,18 @@ impl Ring {
         least
     }
 
+    // By how much what a debtor owes a creditor falls: not at all where the ring does not lead from the one to the other.
+    fn fall(&self, debtor: u32, creditor: u32, by: i32) -> i32
+        requires debtor { debtor < 64 }
+        requires creditor { creditor < 64 }
+        requires some { pos 0 ≤ℤ by }
+        ensures value { result ≡ only (on debtor creditor (steps_of (party self.now))) by }
+        ensures low { pos 0 ≤ℤ result }
+        ensures high { result ≤ℤ by }
+    {
+        if self.leads(debtor, creditor) { by } else { 0 }
+    }
+
     // A line once what is owed on it along the ring has fallen.
     fn lowered(&self, mut line: Line, by: i32) -> Line
         requires bounds { bounded line ≡ true }
@@ -83,8 +110,8 @@ impl Ring {
         requires most { by ≤ℤ pos 1000000 }
         ensures { result ≡ with_debt line ((line.debt -ℤ only (on line.b line.a (steps_of (party self.now))) by) +ℤ only (on line.a line.b (steps_of (party self.now))) by) }
     {
-        line.debt -= part(self.leads(line.b, line.a), by);
-        line.debt += part(self.leads(line.a, line.b), by);
+        line.debt -= self.fall(line.b, line.a, by);
+        line.debt += self.fall(line.a, line.b, by);
         line
     }
 
@@ -100,22 +127,6 @@ impl Ring {
             *line = self.lowered(*line, by);
         }
     }
-}
-
-// The lesser of an amount and of what is owed where that is on the ring.
-fn lesser(on_ring: bool, owed: i32, amount: i32) -> i32
-    ensures most { result ≤ℤ amount }
-    ensures under { on_ring ≡ true → result ≤ℤ owed }
-    ensures met { (result ≡ amount) ⊎ ((on_ring ≡ true) × (result ≡ owed)) }
-{
-    if on_ring { amount.min(owed) } else { amount }
-}
-
-// The amount where the test holds, else 0.
-fn part(test: bool, amount: i32) -> i32
-    ensures { result ≡ only test amount }
-{
-    if test { amount } else { 0 }
 }
 
 // Lowers each debt on the ring that a chain of debts closes to by the least of them, and answers by how much.

@@ -15,6 +15,7 @@ use search::chain::Chain;
 // Cancels rings of debt until none is left. No net position moves, and no debt grows or turns.
 // Each search either cancels a ring, which sets some debt to 0 for good, or leaves a line for good: there are at most
 // twice as many searches as lines.
+#[tactic(auto, using(crate::proofs::Clearing::tidied_clear))]
 pub fn tidy(lines: &mut [Line])
     requires bounds { every bounded lines.old ≡ true }
     requires pairs { distinct lines.old ≡ true }

@@ -1,14 +1,12 @@
 -- Distances from the start, and what a breadth-first search knows of them after each level.
 use Rattle.std.proofs.Common.{◌≡◌, ℕ, zero, suc, ◌+◌, ◌-◌, ◌^◌, ◌<◌, ◌≤◌, ◌&&◌, ◌||◌, eqb, ltb, ◌⊎◌, List, length, get_or, sym, ap, ◌∙◌, subst, inl, inr, ⊎_elim, add-one, arith}
+use Rattle.std.proofs.lemmas.Bool.{cases_lt}
 use Rattle.search.specs.Chains.{IsChain, IsShortest, Separates}
 use Rattle.search.specs.Levels.{Members, Grown, Met, Traced}
 use Rattle.members.specs.Groups.{inside, Has, members_of}
 use Rattle.members.proofs.Digits.{inside_below}
 use Rattle.members.proofs.Facts.{has_or_not, has_not, has_none, union_left, union_right, union_either, with_new, with_only}
 use Rattle.members.proofs.Listed.{count_more, count_lacks, count_some, some_member}
-
-le_or_lt : (a b : ℕ) → (a ≤ b) ⊎ (b < a)
-le_or_lt a b = grind arith
 
 -- n is reached from the start in exactly k steps
 abbrev pub Walk : (S : ℕ → ℕ → Type 0) → ℕ → ℕ → ℕ → Type 0
@@ -21,11 +19,7 @@ pub record Dist (S : ℕ → ℕ → Type 0) (start n k : ℕ) : Type 0 where
   pub least : (j : ℕ) → j < k → Walk S start j n → ⊥
 
 pub dist_one : (S : ℕ → ℕ → Type 0) (start n j k : ℕ) → Dist S start n j → Dist S start n k → j ≡ k
-dist_one S start n j k p q =
-    elim (le_or_lt j k) [
-      | inl a ↦ elim (le_or_lt k j) [ inl b ↦ omega arith | inr b ↦ absurd (q.least j b p.walk) ]
-      | inr a ↦ absurd (p.least k a q.walk)
-    ]
+dist_one S start n j k p q = grind (arith, p.walk, p.least k, q.walk, q.least j)
 
 -- a chain is a walk
 chain_walks : (S : ℕ → ℕ → Type 0) (from to : ℕ) (c : List ℕ) (k : ℕ) → IsChain S from to c k → (i : ℕ) → i ≤ k → Walk S from i (get_or c i 0)
@@ -184,9 +178,9 @@ module _ (S : ℕ → ℕ → Type 0) (start goal : ℕ) where
       dists : (i : ℕ) → i ≤ level + 1 → Dist S start (get_or c i 0) i
       unfolding At
       dists i le =
-          elim (le_or_lt i level) [
-            | inl l ↦ (backs i l).below.1
-            | inr l ↦
+          elim (cases_lt level i) [
+            | inr l ↦ (backs i l).below.1
+            | inl l ↦
                 let q : suc level ≡ i = omega (arith, add-one level) in
                 let z : level + 1 ≡ i = omega arith in
                 subst (λ x. Dist S start x i) (sym (ap (λ x. get_or c x 0) (sym z) ∙ t.last)) (subst (λ x. Dist S start goal x) q goal_at)
@@ -204,8 +198,8 @@ module _ (S : ℕ → ℕ → Type 0) (start goal : ℕ) where
             };
             apart = λ i j li lj e. dist_one S start (get_or c i 0) i j (dists i li) (subst (λ x. Dist S start x j) (sym e) (dists j lj));
             least = λ other j h.
-                elim (le_or_lt (level + 1) j) [
-                  | inl l ↦ l
-                  | inr l ↦ absurd (goal_at.least j (omega (arith, add-one level)) (chain_walk S start goal other j h))
+                elim (cases_lt j (level + 1)) [
+                  | inr l ↦ l
+                  | inl l ↦ absurd (goal_at.least j (omega (arith, add-one level)) (chain_walk S start goal other j h))
                 ];
           }

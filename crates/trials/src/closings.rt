@@ -1,30 +1,15 @@
 // Batches with the whole text of their sheets.
-use batch::sheet::{MAX_LINE, SheetLine};
+use batch::text::sheet_text;
 use closing::batches::{LONGEST_BATCH, close_batch};
 use credit::payment::Payment;
 use filling::router::Breadth;
 use ledger::state::Ledger;
 use std::test::*;
 
-// Adds the text of one line of a sheet.
-fn add_text(text: &mut Vec<u8>, line: &SheetLine) -> Result<(), Fail> {
-    let mut buffer = [0u8; MAX_LINE];
-    let n = line.write(&mut buffer)?;
-    if n > MAX_LINE {
-        return Err(Fail::new("a line of the sheet is longer than its buffer"));
-    }
-    text.extend_from_slice(&buffer[0..n])?;
-    Ok(())
-}
-
 // The whole text of the sheet of a batch.
 fn sheet_of(rt: &HostRuntime, ledger: &mut Ledger, batch: &[u8]) -> Result<Vec<u8>, Fail> {
     let sheet = close_batch(ledger, batch, rt.alloc())?;
-    let mut text = Vec::new(rt.alloc());
-    for line in sheet.iter() {
-        add_text(&mut text, line)?;
-    }
-    Ok(text)
+    Ok(sheet_text(sheet.as_slice(), rt.alloc())?)
 }
 
 // The batch closes with this sheet.
@@ -151,19 +136,14 @@ fn longest(rt: HostRuntime) -> Result<(), Fail> {
 // More lines than a ledger has places for.
 #[test]
 fn many_lines(rt: HostRuntime) -> Result<(), Fail> {
-    let mut batch = Vec::new(rt.alloc());
-    for a in b"123456" {
-        for tens in b"12345" {
-            for ones in b"0123456789" {
-                batch.extend_from_slice(&[
-                    b'(', b'l', b'i', b'n', b'e', b' ', *a, b' ', *tens, *ones, b' ', b'1', b' ',
-                    b'1', b')', b'\n',
-                ])?;
-            }
+    let mut batch = String::new(rt.alloc());
+    for first in 1..7 {
+        for second in 10..60 {
+            writeln!(batch, "(line {first} {second} 1 1)")?;
         }
     }
     let mut ledger = Ledger::new(rt.alloc())?;
-    let text = sheet_of(&rt, &mut ledger, &batch)?;
+    let text = sheet_of(&rt, &mut ledger, batch.as_bytes())?;
     assert!(rt; text.len() >= 2208);
     assert!(rt; &text[2187..2208] == b"(ok 256)\n(no 257 11)\n".as_slice());
     Ok(())

@@ -1,6 +1,7 @@
-use Rattle.std.proofs.Common.{◌≡◌, pos, ◌≤ℤ◌, sym, subst, arith, w32, w64, to_z, of_z}
+use Rattle.std.proofs.Common.{◌≡◌, length, ap, ◌∙◌, pos, ◌≤ℤ◌, sym, subst, arith, w32, w64, to_z, of_z}
 use Rattle.std.proofs.lemmas.Int.{ints}
 use Rattle.credit.specs.Plans.{booked}
+use Rattle.credit.proofs.Booked.{length_booked}
 use Rattle.search.specs.Chains.{IsShortest}
 use Rattle.routing.proofs.Passing.{passed_facts}
 use Rattle.filling.specs.Steps.{RoomStep}
@@ -11,18 +12,20 @@ use Rattle.filling.proofs.Filled.{sent_bound}
 use Rattle.filling.proofs.fill.fill.Goals as goal
 use Rattle.filling.proofs.fill.fill.Goals.{After-least_room-x}
 
+pub hops-hops-requires : goal.hops-hops-requires
+hops-hops-requires c = rw c.new-booked.ensures c.requires.shortest.chain.linked
+
 -- the filling, and how much is sent
 filling : (c : After-least_room-x) → Filling c.args.lines.now c.args.rest.payer c.args.rest.payee (pos c.args.least) c.args.rest.amount c.args.plan.now c.args.chain.now.members.items c.hops-hops.result.items c.least_room-x.result
 filling c =
     let ls = booked c.args.lines.now c.args.plan.now in
-    let hops = c.hops-hops.result.items in
     let p = passed_facts c.args.lines.now c.args.rest c.args.plan.now c.requires.checks in
     let n : to_z w32 (of_z w32 c.args.rest.amount) ≡ c.args.rest.amount = omega (arith, ints, p.low, p.high) in
     record {
       some = p.low;
       shortest = subst (λ k. IsShortest (RoomStep ls (pos c.args.least)) c.args.rest.payer c.args.rest.payee c.args.chain.now.members.items k) (sym c.hops-hops.ensures.count) c.requires.shortest;
-      over = c.hops-hops.ensures.over;
-      amount = least_all ls hops c.args.rest.amount c.least_room-x.result (rw (c.deref.ensures.0, n) at c.least_room-x.ensures);
+      over = rw c.new-booked.ensures at c.hops-hops.ensures.over;
+      amount = least_all ls c.hops-hops.result.items c.args.rest.amount c.least_room-x.result (rw (c.deref.ensures.0, n, c.new-booked.ensures) at c.least_room-x.ensures);
     }
 
 low : (c : After-least_room-x) → pos 0 ≤ℤ c.least_room-x.result
@@ -40,6 +43,11 @@ cast c = omega (arith, ints, low c, high c)
 
 pub overflow_cast-x : goal.overflow_cast-x
 overflow_cast-x c = omega (arith, ints, low c, high c)
+
+pub send-requires-clause-within : goal.send-requires-clause-within
+send-requires-clause-within c =
+    let n : length c.new-booked.result ≡ length c.args.lines.now = ap (λ l. length l) c.new-booked.ensures ∙ length_booked c.args.lines.now c.args.plan.now in
+    rw c.deref-2.ensures.0 (rw n at c.hops-hops.ensures.within)
 
 pub send-requires-clause-apart : goal.send-requires-clause-apart
 send-requires-clause-apart c =

@@ -2,9 +2,6 @@ use Rattle.std.proofs.Common.{arith}
 use Rattle.rings.proofs.Clearing.{reached_none, reached_then, reached_keeps, reached_one, over_nearer}
 use Rattle.rings.proofs.tidy.clear.Goals as goal
 
-pub loop-chain-init : goal.loop-chain-init
-loop-chain-init c = record { reached = reached_none c.args.lines.now; bounds = c.requires.bounds; pairs = c.requires.pairs }
-
 pub loop-chain-smaller : goal.loop-chain-smaller
 loop-chain-smaller c =
     let v = c.loop-chain.invariant in

@@ -6,9 +6,6 @@ use Rattle.std.proofs.Common.{MatchOption, Option, sym, subst}
 use Rattle.rings.specs.Rounds.{Clear, RoundOver}
 use Rattle.rings.proofs.tidy.ring_over.Goals as goal
 
-pub debt_of-requires : goal.debt_of-requires
-debt_of-requires c = every_at bounded c.args.lines.now c.args.i no_line c.requires.bounds c.requires.place
-
 pub returns : goal.returns
 returns c =
     let d = c.in_ok-debt.debt in

@@ -7,12 +7,6 @@ use Rattle.rings.proofs.Lowering.{Least, least_none, least_more}
 use Rattle.rings.proofs.Clearing.{ring_least}
 use Rattle.rings.proofs.ring.Ring.least.Goals as goal
 
-pub loop-line-init : goal.loop-line-init
-loop-line-init c = least_none (party c.args.self.now) c.args.lines.now _ refl
-
-pub least_on-least-requires : goal.least_on-least-requires
-least_on-least-requires c = every_at bounded c.args.lines.now c.loop-line.line-index no_line c.requires.bounds c.loop-line-test.true
-
 pub loop-line-preserved : goal.loop-line-preserved
 loop-line-preserved c =
     let g : SFits w32 c.least_on-least.result = search rules in

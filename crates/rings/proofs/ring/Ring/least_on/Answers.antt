@@ -1,15 +1,10 @@
-use Rattle.std.proofs.Common.{sym, ◌∙◌, inl, inr, arith}
+use Rattle.std.proofs.Common.{inl, inr, arith}
 use Rattle.std.proofs.lemmas.Int.{ints}
 use Rattle.credit.proofs.Bounds.{bounded_facts}
 use Rattle.rings.proofs.ring.Ring.least_on.Goals as goal
 
-pub leads-requires : goal.leads-requires
-leads-requires c =
-    let f = bounded_facts c.args.line c.requires in
-    record { debtor = f.high; creditor = omega (arith, f.order, f.high) }
-
-pub leads-requires-2 : goal.leads-requires-2
-leads-requires-2 c =
+pub lesser-requires : goal.lesser-requires
+lesser-requires c =
     let f = bounded_facts c.args.line c.requires in
     record { debtor = omega (arith, f.order, f.high); creditor = f.high }
 
@@ -20,9 +15,9 @@ returns c =
     let q = c.lesser.ensures in
     record {
       most = omega (arith, ints);
-      under = (λ e. omega (arith, ints, p.under (c.leads.ensures ∙ e)), λ e. omega (arith, ints, q.under (c.leads-2.ensures ∙ e)));
+      under = (λ e. omega (arith, ints, p.under e), λ e. omega (arith, ints, q.under e));
       met = elim q.met [
-        | inl e ↦ elim p.met [ inl d ↦ inl (omega (arith, ints)) | inr d ↦ inr (inl (sym c.leads.ensures ∙ d.0, omega (arith, ints, d.1))) ]
-        | inr e ↦ inr (inr (sym c.leads-2.ensures ∙ e.0, omega (arith, ints, e.1)))
+        | inl e ↦ elim p.met [ inl d ↦ inl (omega (arith, ints)) | inr d ↦ inr (inl (d.0, omega (arith, ints, d.1))) ]
+        | inr e ↦ inr (inr (e.0, omega (arith, ints, e.1)))
       ];
     }

@@ -8,18 +8,6 @@ use Rattle.rings.proofs.Stepping.{apart_once}
 use Rattle.rings.proofs.Lowering.{lowering_none, lowering_more, lowering_all}
 use Rattle.rings.proofs.ring.Ring.lower.Goals as goal
 
-pub loop-line-init : goal.loop-line-init
-loop-line-init c = lowering_none (party c.args.self.now) (to_z w32 (of_z w32 c.args.by)) c.args.lines.now
-
-pub lowered-requires : goal.lowered-requires
-lowered-requires c =
-    let l = c.loop-line.invariant in
-    record {
-      bounds = ap bounded (l.left c.loop-line.line-index (omega arith)) ∙ every_at bounded c.args.lines.now c.loop-line.line-index no_line c.requires.bounds (omega (arith, l.long));
-      some = omega (arith, ints);
-      most = omega (arith, ints);
-    }
-
 pub loop-line-preserved : goal.loop-line-preserved
 loop-line-preserved c =
     lowering_more (party c.args.self.now) (to_z w32 (of_z w32 c.args.by)) (to_z w32 (of_z w32 c.args.by)) c.args.lines.now c.loop-line.lines c.loop-line.line-index c.lowered.result (apart_once (party c.args.self.now) c.requires.apart) refl (omega arith) c.loop-line.invariant c.lowered.ensures

@@ -1,9 +1,8 @@
 use Rattle.std.proofs.Common.{◌≡◌, ℕ, ◌+◌, ◌-◌, ◌<◌, ◌≤◌, length, get_or, drop, pos}
 use Rattle.std.specs.Slice.Iter.{windows_rest, windows_size}
-use Rattle.credit.specs.Plans.{booked}
 use Rattle.search.specs.Answers.{steps}
 use Rattle.filling.specs.Fillings.{no_hop, Over}
-use Rattle.filling.proofs.chain.hops.Given as goal
+use Rattle.filling.proofs.booked.Booked.hops.Given as goal
 
 abbrev pub invariant-loop-pair : goal.invariant-loop-pair
 invariant-loop-pair l = record {
@@ -12,5 +11,5 @@ invariant-loop-pair l = record {
   fits : length l.chain.members.items ≤ 64;
   count : length l.hops.items + length (windows_rest l.pair-iterator) ≡ length l.chain.members.items;
   short : length l.hops.items ≤ steps l.chain;
-  over : (k : ℕ) → k < length l.hops.items → Over (booked l.lines l.plan) (pos l.least) l.chain.members.items k (get_or l.hops.items k no_hop);
+  over : (k : ℕ) → k < length l.hops.items → Over l.self (pos l.least) l.chain.members.items k (get_or l.hops.items k no_hop);
 }

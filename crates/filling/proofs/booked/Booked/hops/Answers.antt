@@ -1,14 +1,10 @@
-use Rattle.std.proofs.Common.{◌≡◌, ◌+◌, ◌-◌, ◌<◌, ◌≤◌, length, get_or, drop, pos, sym, ap, ◌∙◌, arith}
+use Rattle.std.proofs.Common.{◌≡◌, ◌+◌, ◌-◌, ◌≤◌, length, get_or, drop, pos, sym, ap, ◌∙◌, arith}
 use Rattle.std.proofs.lemmas.Iterator.{window_more}
-use Rattle.std.proofs.lemmas.List.Elements.{All-from_get_or}
 use Rattle.std.specs.Slice.Iter.{windows_rest}
-use Rattle.credit.specs.Plans.{booked}
-use Rattle.credit.proofs.Booked.{length_booked}
 use Rattle.filling.specs.Steps.{LeadsAt}
-use Rattle.filling.specs.Fillings.{no_hop}
 use Rattle.filling.proofs.Firsts.{over_push}
-use Rattle.filling.proofs.chain.hops.Goals as goal
-use Rattle.filling.proofs.chain.hops.Goals.{In-Some}
+use Rattle.filling.proofs.booked.Booked.hops.Goals as goal
+use Rattle.filling.proofs.booked.Booked.hops.Goals.{In-Some}
 
 -- this turn's pair is the two members of the chain behind as many as there are hops
 turn : (c : In-Some) → (length (windows_rest c.next.new.self) + 1 ≡ length (windows_rest c.loop-pair.pair-iterator))
@@ -27,18 +23,18 @@ turn c =
     let f : length ms - n + 1 ≡ i + 1 = omega (arith, v.count) in
     (t.0, t.1, omega (arith, t.2, v.size), t.3 0 0 (omega (arith, v.size)) ∙ ap (λ j. get_or ms j 0) e, t.3 1 0 (omega (arith, v.size)) ∙ ap (λ j. get_or ms j 0) f)
 
-pub place-requires-clause-step : goal.place-requires-clause-step
-place-requires-clause-step c =
-    let t = turn (goal.at.place-requires-clause-step c).In-Some in
+pub place-requires : goal.place-requires
+place-requires c =
+    let t = turn (goal.at.place-requires c).In-Some in
     let i = length c.loop-pair.hops.items in
-    rw (t.3, t.4) (c.requires.linked i (omega (arith, t.2, c.loop-pair.invariant.count)))
+    rw (t.3, t.4) (c.requires i (omega (arith, t.2, c.loop-pair.invariant.count)))
 
 pub loop-pair-preserved : goal.loop-pair-preserved
 loop-pair-preserved c =
     let t = turn (goal.at.loop-pair-preserved c).In-Some in
     let v = c.loop-pair.invariant in
     let n = c.push.ensures.len in
-    let ls = booked c.args.lines.now c.args.plan.now in
+    let ls = c.args.self.now in
     let ms = c.args.chain.now.members.items in
     let i = length c.loop-pair.hops.items in
     let o : LeadsAt ls (pos c.args.least) (get_or ms i 0) (get_or ms (i + 1) 0) c.place.result = rw (sym t.3, sym t.4) c.place.ensures in
@@ -50,8 +46,3 @@ loop-pair-preserved c =
       short = omega (arith, t.2, n, v.count);
       over = λ k h. rw c.push.ensures.items (over_push ls (pos c.args.least) ms c.loop-pair.hops.items _ v.over (t.3, o) k (omega (arith, h, n)));
     }
-
-pub returns-clause-within : goal.returns-clause-within
-returns-clause-within c =
-    All-from_get_or (λ h. h.place < length c.args.lines.now) c.loop-pair.hops.items no_hop
-    (λ i h. let o = (c.loop-pair.invariant.over i h).1.0 in omega (arith, o, length_booked c.args.lines.now c.args.plan.now))
