@@ -1,61 +1,80 @@
 -- The numbers read so far.
-use Rattle.std.proofs.Common.{◌≡◌, ℕ, suc, zero, ◌+◌, ◌<◌, Bool, false, eqb, List, [], ◌∷◌, ◌++◌, length, get_or, take, Some, None, Option, Bor, sym, refl, ap, ◌∙◌, arith}
-use denote.Param.Members.{Mut}
-use Rattle.std.specs.Fn.{CalledAt}
-use Rattle.std.specs.Iterator.{Yields}
-use Rattle.std.specs.Iterator.Adapters.{enumerate_source, enumerate_count, enumerate_steps}
-use Rattle.std.specs.Slice.Iter.{split_rest, split_done, split_callee, split_steps}
-use Rattle.std.specs.List.{enumerate_from}
-use Rattle.std.specs.declared.slice.Split.{Split}
-use Rattle.std.specs.declared.iter.Enumerate.{Enumerate}
-use Rattle.std.proofs.lemmas.Iterator.{YieldsList}
-use Rattle.std.proofs.lemmas.Iterator.Consumers.{YieldsList-turn, YieldsList-end, YieldsList-at, YieldsList-from_enumerate}
-use Rattle.std.proofs.lemmas.Iterator.Splits.{YieldsList-from_slice_split}
-use Rattle.std.proofs.lemmas.List.{take_more}
-use Rattle.std.proofs.lemmas.List.FromFn.{get_or-enumerate_from, length-enumerate_from}
+use Rattle.std.proofs.Common.{◌≡◌, ℕ, ◌+◌, ◌<◌, ◌≤◌, Bool, eqb, ◌⊎◌, inl, inr, List, [], ◌∷◌, ◌++◌, length, take, set, Some, None, Option, All, sym, refl, ap, ◌∙◌, ⊎_elim, append_assoc, append-nil, arith, one-add, add-one, length-set}
+use Rattle.std.specs.List.{before_first, after_first}
+use Rattle.std.proofs.lemmas.Bool.{cases_Bool}
+use Rattle.std.proofs.lemmas.List.{take_more_set, take_all}
+use Rattle.std.proofs.lemmas.List.Elements.{All-push}
 use Rattle.batch.specs.Numbers.{numeral_of}
 use Rattle.batch.specs.Parts.{ahead, numbers_of}
-use Rattle.batch.specs.Pieces.{cut}
+use Rattle.batch.specs.Pieces.{onto, cut}
 
--- behind a first piece
-more : (m : Option ℕ) (o o' : Option (List ℕ)) (ns : List ℕ) (n : ℕ) → ahead m o ≡ Some ns → ((os : List ℕ) → o ≡ Some os → o' ≡ Some (os ++ n ∷ [])) → ahead m o' ≡ Some (ns ++ n ∷ [])
-more None o o' ns n e h = cc
-more (Some m) None o' ns n e h = cc
-more (Some m) (Some os) o' ns n e h = let z : m ∷ os ≡ ns = cc in rw (h os refl) (rw (sym z) refl)
+abbrev pub space : ℕ → Bool
+space b = eqb b 32
 
-none : (m : Option ℕ) → ahead m None ≡ None
-none None = refl
-none (Some m) = refl
+-- the first piece, and those after its separator; or it is the only one
+pub pieces : (bs : List ℕ) → (cut 32 bs ≡ before_first space bs ∷ cut 32 (after_first space bs)) ⊎ (cut 32 bs ≡ before_first space bs ∷ [])
+pieces [] = inr refl
+pieces (b ∷ bs) =
+    ⊎_elim (λ e. inl (rw e refl)) (λ e. ⊎_elim (λ h. inl (rw e (ap (onto b) h ∙ simp (one-add, add-one)))) (λ h. inr (rw e (ap (onto b) h ∙ simp (one-add, add-one)))) (pieces bs)) (cases_Bool (eqb b 32))
 
-push : (ps : List (List ℕ)) (p : List ℕ) (ns : List ℕ) (n : ℕ) → numbers_of ps ≡ Some ns → numeral_of p ≡ Some n → numbers_of (ps ++ p ∷ []) ≡ Some (ns ++ n ∷ [])
-push [] p ns n e h = let z : [] ≡ ns = cc in rw h (rw (sym z) refl)
-push (q ∷ ps) p ns n e h = more (numeral_of q) (numbers_of ps) (numbers_of (ps ++ p ∷ [])) ns n e (λ os k. push ps p os n k h)
+some_piece : (bs : List ℕ) → 1 ≤ length (cut 32 bs)
+some_piece bs = ⊎_elim (λ e. omega (arith, ap length e)) (λ e. omega (arith, ap length e)) (pieces bs)
 
--- one number more
-pub one_more : (ps : List (List ℕ)) (i : ℕ) (p : List ℕ) (ns : List ℕ) (n : ℕ) → i < length ps → p ≡ get_or ps i p → numbers_of (take i ps) ≡ Some ns → numeral_of p ≡ Some n → numbers_of (take (i + 1) ps) ≡ Some (ns ++ n ∷ [])
-one_more ps i p ns n l at e h = ap numbers_of (take_more ps i p l) ∙ push (take i ps) (get_or ps i p) ns n e (ap numeral_of (sym at) ∙ h)
+-- ns goes on after the first k of out
+abbrev pub onward : ℕ → List ℕ → Option (List ℕ) → Option (List ℕ)
+onward k out None = None
+onward k out (Some ns) = Some (take k out ++ ns)
 
--- a piece that is no number
-pub no_number : (ps : List (List ℕ)) (i : ℕ) (p : List ℕ) → i < length ps → p ≡ get_or ps i p → numeral_of p ≡ None → numbers_of ps ≡ None
-no_number [] i p l at h = absurd (omega arith)
-no_number (q ∷ ps) zero p l at h = let e : numeral_of q ≡ None = ap numeral_of (sym at) ∙ h in rw e refl
-no_number (q ∷ ps) (suc i) p l at h = rw (no_number ps i p (omega arith) at h) (none (numeral_of q))
+pub record Sofar (body : List ℕ) (n k : ℕ) (out rest : List ℕ) : Type 0 where
+  pub size : length out ≡ n
+  pub going : k < n → (k + length (cut 32 rest) ≡ n) × (numbers_of (cut 32 body) ≡ onward k out (numbers_of (cut 32 rest)))
+  pub done : k ≡ n → numbers_of (cut 32 body) ≡ Some out
+  pub small : All (λ m. m < 10000000) (take k out)
 
-module _ {F : Type 0} {g : Mut F (Bor ℕ × Unit {0}) Bool} {f : F} {pieces : Split ℕ F} {numbered from : Enumerate (Split ℕ F)} (body : List ℕ) (xs : List (ℕ × Bor (List ℕ))) (t u : Enumerate (Split ℕ F)) (r : Option (ℕ × Bor (List ℕ)))
-    (y : Yields (enumerate_steps (split_steps g)) from xs t) (s : enumerate_steps (split_steps g) t r u)
-    (is : from ≡ numbered) (source : enumerate_source numbered ≡ pieces) (count : enumerate_count numbered ≡ 0)
-    (rest : split_rest pieces ≡ body) (done : split_done pieces ≡ false) (callee : split_callee pieces ≡ f)
-    (space : (x : ℕ) (b : Bool) (q : F) → CalledAt g f x b q → (q ≡ f) × (b ≡ eqb x 32)) where
-  road : YieldsList {B = ℕ × List ℕ} (enumerate_steps (split_steps g)) (λ p. (p.0, p.1.now)) from (enumerate_from 0 (cut 32 body))
-  road = YieldsList-at is (YieldsList-from_enumerate (YieldsList-at source (YieldsList-from_slice_split g (λ b. eqb b 32) body rest done callee space)) count)
+none_yet : (o : Option (List ℕ)) (out : List ℕ) → o ≡ onward 0 out o
+none_yet None out = refl
+none_yet (Some ns) out = refl
 
-  pub turn : (k : ℕ) (p : Bor (List ℕ)) → r ≡ Some (k, p) → (length xs < length (cut 32 body)) × (k ≡ length xs) × (p.now ≡ get_or (cut 32 body) k p.now)
-  turn k p e =
-      let h = YieldsList-turn road xs t y r u (k, p) e s in
-      let l : length xs < length (cut 32 body) = omega (arith, h.0, length-enumerate_from 0 (cut 32 body)) in
-      let e' = h.1 ∙ get_or-enumerate_from 0 (cut 32 body) (length xs) (k, p.now) l in
-      let i : k ≡ length xs = omega (arith, ap (λ p. p.0) e') in
-      (l, i, rw i (ap (λ p. p.1) e'))
+pub start : (body : List ℕ) (n : ℕ) (out : List ℕ) → length (cut 32 body) ≡ n → length out ≡ n → Sofar body n 0 out body
+start body n out h e = record {
+  size = e;
+  going = λ l. (omega arith, none_yet _ out);
+  done = λ z. absurd (omega (arith, some_piece body));
+  small = λ j d lt. absurd (omega arith);
+}
 
-  pub end : r ≡ None → length xs ≡ length (cut 32 body)
-  end e = let h = YieldsList-end road xs t y r u e s in h.1 ∙ length-enumerate_from 0 (cut 32 body)
+one_more : (k m : ℕ) (out : List ℕ) (o : Option (List ℕ)) → k < length out → onward k out (ahead (Some m) o) ≡ onward (k + 1) (set out k m) o
+one_more k m out None l = refl
+one_more k m out (Some ns) l = ap Some (sym (append_assoc (take k out) (m ∷ []) ns) ∙ ap (λ xs. xs ++ ns) (sym (take_more_set out k m l)))
+
+module _ (body : List ℕ) (n k : ℕ) (out rest : List ℕ) (h : Sofar body n k out rest) (l : k < n) where
+  -- the numbers that are left, by what follows the first piece
+  left : (o : Option ℕ) (ps : List (List ℕ)) → cut 32 rest ≡ before_first space rest ∷ ps → numeral_of (before_first space rest) ≡ o
+      → numbers_of (cut 32 body) ≡ onward k out (ahead o (numbers_of ps))
+  left o ps parts e = (h.going l).1 ∙ ap (λ qs. onward k out (numbers_of qs)) parts ∙ ap (λ x. onward k out (ahead x (numbers_of ps))) e
+
+  pub no_number : numeral_of (before_first space rest) ≡ None → numbers_of (cut 32 body) ≡ None
+  no_number e = ⊎_elim (λ parts. left None _ parts e) (λ parts. left None _ parts e) (pieces rest)
+
+  pub step : (m : ℕ) → numeral_of (before_first space rest) ≡ Some m → m < 10000000 → Sofar body n (k + 1) (set out k m) (after_first space rest)
+  step m e few =
+      let old = h.going l in
+      let wide : k < length out = omega (arith, h.size) in
+      let size = length-set out k m ∙ h.size in
+      let small : All (λ x. x < 10000000) (take (k + 1) (set out k m)) = rw (take_more_set out k m wide) (All-push (λ x. x < 10000000) (take k out) m h.small few) in
+      ⊎_elim
+      (λ parts. record {
+        size = size;
+        going = λ g. (omega (arith, old.0, ap length parts), left (Some m) _ parts e ∙ one_more k m out _ wide);
+        done = λ z. absurd (omega (arith, old.0, ap length parts, some_piece (after_first space rest)));
+        small = small;
+      })
+      (λ parts.
+      let full : length (set out k m) ≤ k + 1 = omega (arith, size, old.0, ap length parts) in
+      record {
+        size = size;
+        going = λ g. absurd (omega (arith, old.0, ap length parts));
+        done = λ z. left (Some m) [] parts e ∙ one_more k m out (Some []) wide ∙ ap Some (append-nil _ ∙ take_all (k + 1) (set out k m) full);
+        small = small;
+      })
+      (pieces rest)

@@ -31,8 +31,10 @@ fn add_members(text: &mut Text, group: Group)
     ensures bytes { text.new.bytes ≡ text.old.bytes ++ listed (members_of group.bits) }
     ensures len { array_string_len text.new ≤ array_string_len text.old + 192 }
 {
+    let mut digits = Buffer::new();
     for member in group.walk() {
-        add(text, " ", member);
+        text.push(' ');
+        text.push_str(digits.format(member));
     }
 }
 

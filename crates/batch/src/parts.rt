@@ -5,7 +5,7 @@ ghost use Rattle.batch.specs.Pieces.{cut};
 ghost use Rattle.batch.specs.Parts.{numbers_of, parts_of};
 
 use crate::fixed::unclosed;
-use crate::scan::number;
+use crate::scan::{cut_at, number};
 use credit::refusal::Refusal;
 
 // How many pieces the bytes are cut into at each `stop`.
@@ -15,15 +15,18 @@ fn count(bytes: &[u8], stop: u8) -> usize
     bytes.split(|b| *b == stop).count()
 }
 
-// Reads the numbers between the spaces, one into each place. In `parts` itself, with its const parameter, no `for` over the pieces is accepted.
+// Reads the numbers between the spaces, one into each place.
 fn read(body: &[u8], places: &mut [u32]) -> Option<()>
     requires { length (cut 32 body.now) ≡ length places.old }
     ensures value { option_map (λ _. places.new) result ≡ numbers_of (cut 32 body.now) }
     ensures small { OnSome result (All (λ n. n < 10000000) places.new) }
 {
-    // by place: a proof knows nothing of what is written through a zip, and std collects into no array
-    for (k, part) in body.split(|b| *b == b' ').enumerate() {
-        places[k] = number(part)?;
+    let mut rest = body;
+    // cut by cut: over `split` and `enumerate` a line took half as long again to read
+    for place in places.iter_mut() {
+        let (part, more) = cut_at(rest, b' ');
+        *place = number(part)?;
+        rest = more;
     }
     Some(())
 }

@@ -1,6 +1,18 @@
-// Scanning bytes for a number.
-ghost use Rattle.std.specs.Prelude.{◌≡◌, ◌<◌, ◌≤◌, length, IfSome};
+// Scanning bytes: up to a separator, and for a number.
+ghost use Rattle.std.specs.Prelude.{◌≡◌, ◌<◌, ◌≤◌, length, IfSome, ◌==◌};
+ghost use Rattle.std.specs.List.{before_first, after_first};
 ghost use Rattle.batch.specs.Numbers.{numeral_of, read_on};
+
+// The bytes up to the first `stop`, and those after it.
+pub(crate) fn cut_at(bytes: &[u8], stop: u8) -> (&[u8], &[u8])
+    ensures front { result.0.now ≡ before_first (λ b. b == stop) bytes.now }
+    ensures rest { result.1.now ≡ after_first (λ b. b == stop) bytes.now }
+{
+    match bytes.iter().position(|b| *b == stop) {
+        Some(end) => (&bytes[..end], &bytes[end + 1..]),
+        None => (bytes, &[]),
+    }
+}
 
 // The number that at most 7 digits write.
 #[tactic(auto, using(crate::proofs::Digits::few))]

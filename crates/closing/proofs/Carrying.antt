@@ -1,7 +1,8 @@
--- How many lines a batch has.
-use Rattle.std.proofs.Common.{◌≡◌, ℕ, suc, ◌≤◌, Bool, true, false, cond, eqb, List, [], ◌∷◌, length, refl, ap, arith}
+-- How many lines a batch has, and the first of them.
+use Rattle.std.proofs.Common.{◌≡◌, ℕ, suc, ◌≤◌, Bool, true, false, cond, eqb, List, [], ◌∷◌, length, Some, None, refl, ap, arith}
+use Rattle.batch.specs.declared.reader.Step.{Step}
 use Rattle.batch.specs.Pieces.{onto}
-use Rattle.batch.specs.Reads.{lines_of, numbered, steps_of}
+use Rattle.batch.specs.Reads.{lines_of, numbered, steps_of, head_of, tail_of}
 
 onto_length : (b : ℕ) (ps : List (List ℕ)) → length (onto b ps) ≤ suc (length ps)
 onto_length b [] = omega arith
@@ -22,3 +23,12 @@ numbered_length n (l ∷ ls) = ap suc (numbered_length (suc n) ls)
 -- a batch has no more lines than bytes
 pub steps_few : (batch : List ℕ) → length (steps_of batch) ≤ length batch
 steps_few batch = omega (arith, numbered_length 0 (lines_of batch), lines_few batch)
+
+-- the first line, and those after it
+pub head_some : (steps : List Step) (s : Step) → Some s ≡ head_of steps → steps ≡ s ∷ tail_of steps
+head_some [] s e = cc
+head_some (t ∷ ts) s e = let k : t ≡ s = cc in ap (λ x. x ∷ ts) k
+
+pub head_none : (steps : List Step) → None ≡ head_of steps → steps ≡ []
+head_none [] e = refl
+head_none (t ∷ ts) e = cc

@@ -54,6 +54,7 @@ fn add_calls(calls: &mut Vec<Call>, form: Form) -> Result<(), AllocError>
 }
 
 // Reads a batch up to its end or to the first line that is no form.
+#[tactic(auto, using(crate::proofs::Scripting::read_on_lem))]
 pub fn read(heap: Global, batch: &[u8]) -> Result<Script, AllocError>
     ensures { IfOk result (λ script. ScriptOf (steps_of batch.now) script) }
 {

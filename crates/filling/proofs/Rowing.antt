@@ -6,6 +6,7 @@ use Rattle.std.proofs.lemmas.Bool.Decides.{nat_tests}
 use Rattle.std.proofs.lemmas.List.{get_or_default}
 use Rattle.std.proofs.lemmas.List.Folds.{Any-from_list_any, list_any_at, list_any_more}
 use Rattle.std.specs.List.{list_any}
+use Rattle.lists.specs.Lists.{listed}
 use Rattle.credit.specs.declared.line.Line.{Line}
 use Rattle.credit.specs.Net.{no_line}
 use Rattle.credit.specs.Plans.{room_from}
@@ -71,7 +72,7 @@ module _ (S T : ℕ → ℕ → Type 0) (to : (m n : ℕ) → S m n → T m n) (
   pub answered_same : (r : Result Chain Group) → Answered S p q r → Answered T p q r
   answered_same (Ok chain) h =
       record {
-        chain = chain_same S T to chain.members.items _ h.chain;
+        chain = chain_same S T to (listed chain.members) _ h.chain;
         apart = h.apart;
         least = λ other j o. h.least other j (chain_same T S back other j o);
       }

@@ -2,6 +2,7 @@
 ghost use Rattle.std.specs.Prelude.{◌≡◌, ℕ, ◌+◌, ◌<◌, length, pos, slice_index, slice_index_or};
 ghost use Rattle.std.specs.List.{All};
 ghost use Rattle.std.specs.Int.{int_min};
+ghost use Rattle.lists.specs.Lists.{listed};
 ghost use Rattle.search.specs.Answers.{steps};
 ghost use Rattle.filling.specs.Steps.{LeadsAt, RoomStep};
 ghost use Rattle.filling.specs.Fillings.{no_hop, Over, room_over, least_over};
@@ -36,13 +37,13 @@ impl Booked<'_, '_> {
 
     // The steps of a chain, each over the first line that it can go over.
     pub(crate) fn hops(&self, least: u32, chain: &Chain) -> ArrayVec<Hop, 64>
-        requires { (i : ℕ) → i < steps chain.now → RoomStep self.now (pos least) (slice_index chain.now.members.items i) (slice_index chain.now.members.items (i + 1)) }
+        requires { (i : ℕ) → i < steps chain.now → RoomStep self.now (pos least) (slice_index (listed chain.now.members) i) (slice_index (listed chain.now.members) (i + 1)) }
         ensures count { length result.items ≡ steps chain.now }
         ensures within { All (λ h. h.place < length self.now) result.items }
-        ensures over { (i : ℕ) → i < length result.items → Over self.now (pos least) chain.now.members.items i (slice_index_or result.items i no_hop) }
+        ensures over { (i : ℕ) → i < length result.items → Over self.now (pos least) (listed chain.now.members) i (slice_index_or result.items i no_hop) }
     {
         let mut hops = ArrayVec::new();
-        for pair in chain.members.windows(2) {
+        for pair in chain.members.as_slice().windows(2) {
             hops.push(Hop {
                 place: self.place(least, pair[0], pair[1]),
                 from: pair[0],

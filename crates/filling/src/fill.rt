@@ -1,6 +1,7 @@
 // Chains filled one after another.
 ghost use Rattle.std.specs.Prelude.{◌≡◌, ◌<◌, ◌≤◌, ◌≢◌, true, length, pos, ◌≤ℤ◌, Ok, Err};
 ghost use Rattle.std.specs.List.{All, AllPairs};
+ghost use Rattle.lists.specs.Lists.{listed};
 ghost use Rattle.credit.specs.Plans.{booked};
 ghost use Rattle.search.specs.Chains.{IsShortest};
 ghost use Rattle.search.specs.Answers.{steps};
@@ -34,7 +35,7 @@ fn send(lines: &[Line], plan: &mut [i32], hops: &[Hop], x: i32)
 // Fills a chain: by its least room, or by what is still to send where that is less. Tells how much that is.
 fn fill(lines: &[Line], plan: &mut [i32], least: u32, chain: &Chain, rest: Payment) -> i32
     requires checks { router_checks lines.now rest plan.old ≡ passes }
-    requires shortest { IsShortest (RoomStep (booked lines.now plan.old) (pos least)) rest.payer rest.payee chain.now.members.items (steps chain.now) }
+    requires shortest { IsShortest (RoomStep (booked lines.now plan.old) (pos least)) rest.payer rest.payee (listed chain.now.members) (steps chain.now) }
     ensures { Fills lines.now rest (pos least) plan.old result plan.new }
 {
     let booked = Booked::new(lines, plan);

@@ -5,5 +5,6 @@ mod booked;
 mod chain;
 mod fill;
 mod graph;
+pub mod named;
 mod rounds;
 pub mod router;

@@ -1,14 +1,15 @@
 // Rounds of fillings with a threshold that is halved down to 1.
 ghost use Rattle.std.specs.Prelude.{◌≡◌, ◌/◌, ◌<◌, ◌≤◌, ◌++◌, length, drop, pos, if◌then◌else◌, Some, None, nat_lt};
+ghost use Rattle.lists.specs.Lists.{listed};
 ghost use Rattle.credit.specs.Refusals.{passes};
 ghost use Rattle.routing.specs.Meaning.{router_checks, Finds};
 ghost use Rattle.filling.specs.Fillings.{Round, Rounds, RoundsEnd, Settles};
 
 use crate::fill::{Short, round};
-use arrayvec::ArrayVec;
 use credit::line::Line;
 use credit::payment::Payment;
 use credit::refusal::Refusal;
+use lists::few::Few;
 
 // Half the threshold, unless it is 1.
 fn halved(least: u32) -> Option<u32>
@@ -37,15 +38,11 @@ fn rounds(lines: &[Line], plan: &mut [i32], top: u32, payment: Payment) -> Resul
 }
 
 // A copy of the numbers of at most 256 lines.
-fn copied(numbers: &[i32]) -> ArrayVec<i32, 256>
+fn copied(numbers: &[i32]) -> Few<i32, 256>
     requires { length numbers.now ≤ 256 }
-    ensures { result.items ≡ numbers.now }
+    ensures { listed result ≡ numbers.now }
 {
-    match ArrayVec::try_from(numbers) {
-        Ok(copy) => copy,
-        // 256 numbers fit
-        Err(_) => unreachable(),
-    }
+    Few::of(0, numbers)
 }
 
 // Puts the first numbers of a plan back.
@@ -74,7 +71,7 @@ pub(crate) fn route_by(
     match rounds(lines, plan, top, payment) {
         Ok(()) => Ok(()),
         Err(short) => {
-            put_back(plan, &before);
+            put_back(plan, before.as_slice());
             Err(Refusal::WantOfRoom {
                 group: short.group,
                 room: payment.amount - short.left,

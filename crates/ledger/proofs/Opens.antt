@@ -1,10 +1,10 @@
 -- The line between two members, and what a new line keeps.
-use Rattle.std.proofs.Common.{◌≡◌, ℕ, ◌<◌, Bool, true, false, cond, not, ◌&&◌, ◌||◌, eqb, ltb, leb, ◌≢◌, List, [], ◌∷◌, ◌++◌, length, ℤ, pos, neg_ℤ, ◌≤ℤ◌, is_some, Some, Option, refl, ap, ◌∙◌, subst, ap₂, arith}
+use Rattle.std.proofs.Common.{◌≡◌, ℕ, ◌<◌, Bool, true, false, cond, not, ◌&&◌, ◌||◌, eqb, ltb, leb, ◌≢◌, List, [], ◌∷◌, ◌++◌, length, ℤ, pos, neg_ℤ, ◌≤ℤ◌, is_some, Some, Option, ⊎_elim, refl, ap, ◌∙◌, subst, ap₂, arith}
 use mathlib.Core.Bool.{and_comm}
 use lib.Signed.{le_z}
 use Rattle.std.specs.List.{list_any}
 use Rattle.std.proofs.lemmas.Int.{ints}
-use Rattle.std.proofs.lemmas.Bool.{and_parts, and_from, or_parts, or_from, not-true, not-false, ltb-true, ltb-false, lt-ltb, eqb-false, leb-false}
+use Rattle.std.proofs.lemmas.Bool.{cases_Bool, and_parts, and_from, or_parts, or_from, not-true, not-false, ltb-true, ltb-false, lt-ltb, eqb-false, leb-false}
 use Rattle.credit.specs.declared.line.Line.{Line}
 use Rattle.credit.specs.declared.refusal.Refusal.TheVariants.{NoSuchMember, SameMember, OutOfRange, ReservationStands, PairHasLine, TooManyLines, SavepointOpen}
 use Rattle.credit.specs.Refusals.{passes}
@@ -26,6 +26,11 @@ use Rattle.ledger.proofs.Stacks.{every_push}
 pub joined_any : (x y : ℕ) (ls : List Line) → list_any (joins x y) ls ≡ joined x y ls
 joined_any x y [] = refl
 joined_any x y (l ∷ ls) = ap (λ t. joins x y l || t) (joined_any x y ls)
+
+-- there is a line between two members where they are joined
+pub joined_is : (x y : ℕ) (ls : List Line) → is_some (line_between x y ls) ≡ joined x y ls
+joined_is x y [] = refl
+joined_is x y (l ∷ ls) = ⊎_elim (λ e. rw e refl) (λ e. rw e (joined_is x y ls)) (cases_Bool (joins x y l))
 
 -- it is one of the lines
 between_bounded : (l m : Line) (o : Option Line) (b : Bool) → bounded l ≡ true → (o ≡ Some m → bounded m ≡ true) → cond b (Some l) o ≡ Some m → bounded m ≡ true

@@ -6,6 +6,7 @@ use Rattle.std.specs.declared.alloc.Global.{Global}
 use Rattle.std.proofs.lemmas.Int.{ints}
 use Rattle.std.proofs.lemmas.Bool.{eq-eqb}
 use Rattle.std.proofs.lemmas.List.{length-map, with_items_is}
+use Rattle.lists.specs.Lists.{listed}
 use Rattle.members.specs.Groups.{inside}
 use Rattle.credit.specs.declared.line.Line.{Line}
 use Rattle.credit.specs.Sums.{only, every}
@@ -59,25 +60,25 @@ with_debts_debts (l ∷ ls) = ap (λ (t : List Line). l ∷ t) (with_debts_debts
 
 -- what holds of a savepoint in a complete stack, and in a restorable one
 abbrev pub covers : List Line → Savepoint → Bool
-covers ls sp = length sp.debts.items == length ls
+covers ls sp = length (listed sp.debts) == length ls
 
 abbrev pub safe : List Line → Savepoint → Bool
-safe ls sp = every bounded (with_debts ls sp.debts.items)
+safe ls sp = every bounded (with_debts ls (listed sp.debts))
 
 -- both hold where the debts are those of the lines
-pub covers_debts : (ls : List Line) (sp : Savepoint) → sp.debts.items ≡ debts ls → covers ls sp ≡ true
-covers_debts ls sp e = eq-eqb (length sp.debts.items) (length ls) (ap length e ∙ length-map ls (λ l. l.debt))
+pub covers_debts : (ls : List Line) (sp : Savepoint) → listed sp.debts ≡ debts ls → covers ls sp ≡ true
+covers_debts ls sp e = eq-eqb (length (listed sp.debts)) (length ls) (ap length e ∙ length-map ls (λ l. l.debt))
 
-pub safe_debts : (ls : List Line) (sp : Savepoint) → every bounded ls ≡ true → sp.debts.items ≡ debts ls → safe ls sp ≡ true
+pub safe_debts : (ls : List Line) (sp : Savepoint) → every bounded ls ≡ true → listed sp.debts ≡ debts ls → safe ls sp ≡ true
 safe_debts ls sp b e = ap (λ ds. every bounded (with_debts ls ds)) e ∙ ap (every bounded) (with_debts_debts ls) ∙ b
 
 -- and stay so where the lines keep their shape
 pub complete_alike : (ls ks : List Line) (sps : List Savepoint) → shape ls ≡ shape ks → complete ls sps ≡ true → complete ks sps ≡ true
-complete_alike ls ks sps e h = ap (λ (n : ℕ). every (λ sp. length sp.debts.items == n) sps) (length_alike ks ls (sym e)) ∙ h
+complete_alike ls ks sps e h = ap (λ (n : ℕ). every (λ sp. length (listed sp.debts) == n) sps) (length_alike ks ls (sym e)) ∙ h
 
 pub restorable_alike : (ls ks : List Line) (sps : List Savepoint) → shape ls ≡ shape ks → restorable ls sps ≡ true → restorable ks sps ≡ true
 restorable_alike ls ks sps e h =
-    every_map (safe ls) (safe ks) sps (λ sp b. ap (every bounded) (with_debts_alike ks ls sp.debts.items (sym e)) ∙ b) h
+    every_map (safe ls) (safe ks) sps (λ sp b. ap (every bounded) (with_debts_alike ks ls (listed sp.debts) (sym e)) ∙ b) h
 
 -- the lines of a vector that was written over by lines of the same shape
 pub over : (v : Vec Line Global) (ws : List Line) → shape ws ≡ shape (vec_items v) → vec_items (with_items v ws) ≡ ws

@@ -1,5 +1,6 @@
 -- What holds of every ledger between calls.
 use Rattle.std.specs.Prelude.{ℕ, Bool, true, false, not, ◌&&◌, List, length, Some, None, Option, ◌==◌, int_le}
+use Rattle.lists.specs.Lists.{listed}
 use Rattle.members.specs.Groups.{inside}
 use Rattle.credit.specs.declared.line.Line.{Line}
 use Rattle.credit.specs.declared.payment.Payment.{Payment}
@@ -12,11 +13,11 @@ use Rattle.ledger.specs.Debts.{with_debts}
 
 -- every savepoint has a debt for each line
 abbrev pub complete : List Line → List Savepoint → Bool
-complete ls sps = every (λ sp. length sp.debts.items == length ls) sps
+complete ls sps = every (λ sp. length (listed sp.debts) == length ls) sps
 
 -- the debts of every savepoint are within bounds
 abbrev pub restorable : List Line → List Savepoint → Bool
-restorable ls sps = every (λ sp. every bounded (with_debts ls sp.debts.items)) sps
+restorable ls sps = every (λ sp. every bounded (with_debts ls (listed sp.debts))) sps
 
 -- a standing reservation is between two members, of an amount in range
 abbrev pub proper : Option Payment → Bool

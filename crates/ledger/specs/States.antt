@@ -1,5 +1,6 @@
 -- What a ledger means: its lines, the open groups of payments, and the standing reservation.
 use Rattle.std.specs.Prelude.{Bool, List, [], map, reverse, ℤ, None, vec_items, Option}
+use Rattle.lists.specs.Lists.{listed}
 use Rattle.credit.specs.declared.line.Line.{Line}
 use Rattle.credit.specs.declared.payment.Payment.{Payment}
 use Rattle.ledger.specs.declared.state.Savepoint.{Savepoint}
@@ -21,7 +22,7 @@ abbrev pub fresh : State
 fresh = record { lines = []; groups = []; standing = None }
 
 abbrev pub open_group : Savepoint → OpenGroup
-open_group sp = record { saved = sp.debts.items; spoiled = sp.spoiled }
+open_group sp = record { saved = listed sp.debts; spoiled = sp.spoiled }
 
 abbrev pub state_of : Ledger → State
 state_of l = record {

@@ -1,5 +1,6 @@
 // The open groups of payments: saving debts, giving them back, and marking the inmost group.
 ghost use Rattle.std.specs.Prelude.{◌≡◌, ◌<◌, ◌≤◌, true, false, length, is_some};
+ghost use Rattle.lists.specs.Lists.{listed};
 ghost use Rattle.calls.specs.Answers.{closing};
 ghost use Rattle.calls.specs.declared.call.Answer.TheVariants.{Kept, Undone};
 ghost use Rattle.ledger.specs.Debts.{debts, with_debts};
@@ -7,20 +8,20 @@ ghost use Rattle.ledger.specs.States.{state_of, with_groups};
 ghost use Rattle.ledger.specs.Calls.{begun, closed, spoil_inmost};
 
 use crate::state::{Ledger, Savepoint};
-use arrayvec::ArrayVec;
 use calls::call::Closing;
 use credit::line::Line;
+use lists::few::Few;
 
 // The debts of the lines, in their order.
-fn debts_of(lines: &[Line]) -> ArrayVec<i32, 256>
+fn debts_of(lines: &[Line]) -> Few<i32, 256>
     requires { length lines.now ≤ 256 }
-    ensures { result.items ≡ debts lines.now }
+    ensures { listed result ≡ debts lines.now }
 {
-    let mut saved = ArrayVec::new();
-    for line in lines {
-        saved.push(line.debt);
+    let mut saved = [0; 256];
+    for (i, line) in lines.iter().enumerate() {
+        saved[i] = line.debt;
     }
-    saved
+    Few::first(saved, lines.len())
 }
 
 // Gives each line its debt back.
@@ -61,12 +62,13 @@ impl Ledger {
         ensures state { state_of self.new ≡ closed (state_of self.old) (state_of self.old).groups false }
     {
         if let Some(savepoint) = self.savepoints.pop() {
-            restore(&mut self.lines, &savepoint.debts);
+            restore(&mut self.lines, savepoint.debts.as_slice());
         }
         Closing::Undone
     }
 
     // Marks the inmost group, if any, as spoiled.
+    #[tactic(auto, using(crate::proofs::Stacks::groups_mark))]
     pub(crate) fn spoil_inmost(&mut self)
         ensures { state_of self.new ≡ with_groups (state_of self.old) (spoil_inmost (state_of self.old).groups) }
     {

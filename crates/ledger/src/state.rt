@@ -5,14 +5,14 @@ ghost use Rattle.credit.specs.Net.{bounded};
 ghost use Rattle.credit.specs.Pairs.{distinct};
 ghost use Rattle.ledger.specs.Sound.{complete, restorable, proper, strained};
 
-use arrayvec::ArrayVec;
 use credit::line::Line;
 use credit::payment::Payment;
+use lists::few::Few;
 
 // An open group of payments: the debts as at its begin, line by line, and whether it is spoiled.
-#[derive(Drop)]
+#[derive(Clone, Copy)]
 pub struct Savepoint {
-    pub debts: ArrayVec<i32, 256>,
+    pub debts: Few<i32, 256>,
     // a flag: the debts are kept either way, so two cases with the same field would be no plainer
     pub spoiled: bool,
 }

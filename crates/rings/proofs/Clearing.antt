@@ -2,6 +2,7 @@
 use Rattle.std.proofs.Common.{◌≡◌, ℕ, ◌+◌, ◌-◌, ◌<◌, ◌≤◌, Bool, true, false, ◌&&◌, ◌||◌, eqb, ◌≢◌, ◌⊎◌, List, [], ◌∷◌, ◌++◌, length, get_or, ℤ, Ok, Err, Result, MatchOption, pos, negsuc, ◌-ℤ◌, neg_ℤ, nat_abs, ◌≤ℤ◌, ◌<ℤ◌, sym, refl, ap, ◌∙◌, subst, ap₂, subst₂, inl, inr, arith, below_more}
 use Rattle.std.proofs.lemmas.Int.{ints}
 use Rattle.std.proofs.lemmas.Bool.{and_parts, or_cases, or_left, or_right, eqb-true, cases_eq}
+use Rattle.lists.specs.Lists.{listed}
 use Rattle.members.specs.Groups.{inside}
 use Rattle.std.specs.Result.{result_ok}
 use Rattle.search.specs.declared.chain.Chain.{Chain}
@@ -267,8 +268,8 @@ over_closed : (ls : List Line) (i x y g : ℕ) → every bounded ls ≡ true →
 over_closed ls i x y g b o s = clear_separated ls i x y g b o s.inside s.outside s.closed
 
 pub over_searched : (ls : List Line) (i x y : ℕ) → distinct ls ≡ true → every bounded ls ≡ true → i < length ls → pos 0 <ℤ line_owes x y (get_or ls i no_line)
-    → (r : Result Chain NoChain) → Searched (DebtStep ls) y x r → MatchOption (result_ok r) (Clear ls i) (λ chain. RoundOver ls i chain.members.items)
-over_searched ls i x y d b h o (Ok chain) a = over_along ls i x y chain.members.items d b h o a.2
+    → (r : Result Chain NoChain) → Searched (DebtStep ls) y x r → MatchOption (result_ok r) (Clear ls i) (λ chain. RoundOver ls i (listed chain.members))
+over_searched ls i x y d b h o (Ok chain) a = over_along ls i x y (listed chain.members) d b h o a.2
 over_searched ls i x y d b h o (Err NotMembers) a = let m = step_members x y ls b (i, h, o) in absurd (a m.1 m.0)
 over_searched ls i x y d b h o (Err (Closed group)) a = over_closed ls i x y group.bits b o a.2
 

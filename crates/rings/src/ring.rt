@@ -1,4 +1,5 @@
 ghost use Rattle.std.specs.Prelude.{◌≡◌, ◌<◌, ◌≤◌, true, ◌⊎◌, length, pos, ◌+ℤ◌, ◌-ℤ◌, ◌≤ℤ◌};
+ghost use Rattle.lists.specs.Lists.{listed};
 ghost use Rattle.credit.specs.Sums.{every, only};
 ghost use Rattle.credit.specs.Net.{bounded};
 ghost use Rattle.credit.specs.Plans.{with_debt};
@@ -13,13 +14,13 @@ use search::chain::Chain;
 const MOST: i32 = 1_000_000;
 
 // A ring: each member of the chain owes the next, and the last owes the first.
-#[derive(Drop)]
+#[derive(Clone, Copy)]
 pub struct Ring {
     chain: Chain,
     // whom each member owes on the ring
     creditors: [Option<u32>; 64],
 
-    ghost table: { Links creditors chain.members.items },
+    ghost table: { Links creditors (listed chain.members) },
 }
 
 impl Ring {
@@ -27,15 +28,16 @@ impl Ring {
 
     // The ring that a chain of different members closes to.
     fn new(chain: Chain) -> Ring
-        requires three { 3 ≤ length chain.members.items }
-        requires apart { Apart chain.members.items }
+        requires three { 3 ≤ length (listed chain.members) }
+        requires apart { Apart (listed chain.members) }
         ensures { result.chain ≡ chain }
     {
+        let members = chain.members.as_slice();
         let mut creditors = [None; 64];
-        for step in chain.members.windows(2) {
+        for step in members.windows(2) {
             creditors[step[0] as usize] = Some(step[1]);
         }
-        if let [first, .., last] = chain.members.as_slice() {
+        if let [first, .., last] = members {
             creditors[*last as usize] = Some(*first);
         }
         Ring { chain, creditors }
@@ -78,7 +80,7 @@ impl Ring {
 
     // The least that is owed on a step of the ring.
     fn least(&self, lines: &[Line]) -> i32
-        requires rounds { Rounds lines.now self.now.chain.members.items }
+        requires rounds { Rounds lines.now (listed self.now.chain.members) }
         requires bounds { every bounded lines.now ≡ true }
         requires pairs { distinct lines.now ≡ true }
         ensures ring { RingOf lines.now (party self.now) result }
@@ -131,11 +133,11 @@ impl Ring {
 
 // Lowers each debt on the ring that a chain of debts closes to by the least of them, and answers by how much.
 pub(crate) fn cancel(lines: &mut [Line], chain: Chain) -> i32
-    requires rounds { Rounds lines.old chain.members.items }
+    requires rounds { Rounds lines.old (listed chain.members) }
     requires bounds { every bounded lines.old ≡ true }
     requires pairs { distinct lines.old ≡ true }
-    ensures ring { RingOf lines.old chain.members.items result }
-    ensures lowered { lines.new ≡ cancelled (steps_of chain.members.items) result lines.old }
+    ensures ring { RingOf lines.old (listed chain.members) result }
+    ensures lowered { lines.new ≡ cancelled (steps_of (listed chain.members)) result lines.old }
 {
     let ring = Ring::new(chain);
     let by = ring.least(lines);

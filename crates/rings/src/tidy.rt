@@ -1,5 +1,6 @@
 // For the crates above: callers keep every line within its bounds, and at most one line for each pair.
 ghost use Rattle.std.specs.Prelude.{◌≡◌, ℕ, ◌<◌, true, length, MatchOption};
+ghost use Rattle.lists.specs.Lists.{listed};
 ghost use Rattle.credit.specs.Sums.{every};
 ghost use Rattle.credit.specs.Net.{bounded, net};
 ghost use Rattle.credit.specs.Pairs.{distinct};
@@ -49,7 +50,7 @@ fn ring_over(lines: &[Line], i: usize) -> Option<Chain>
     requires place { i < length lines.now }
     requires bounds { every bounded lines.now ≡ true }
     requires pairs { distinct lines.now ≡ true }
-    ensures { MatchOption result (Clear lines.now i) (λ chain. RoundOver lines.now i chain.members.items) }
+    ensures { MatchOption result (Clear lines.now i) (λ chain. RoundOver lines.now i (listed chain.members)) }
 {
     let debt = debt_of(lines[i])?;
     chain_of_debts(lines, debt.creditor, debt.debtor).ok()

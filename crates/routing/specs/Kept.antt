@@ -1,5 +1,6 @@
 -- What Kept does beyond the meaning of every router: which groups it remembers, and when one of them refuses.
 use Rattle.std.specs.Prelude.{◌≡◌, Bool, cond, not, ◌&&◌, List, [], ◌∷◌, take, ℤ, Some, None, Ok, Err, Option, int_lt}
+use Rattle.lists.specs.Lists.{listed}
 use Rattle.members.specs.declared.group.Group.{Group}
 use Rattle.members.specs.Groups.{inside}
 use Rattle.credit.specs.declared.line.Line.{Line}
@@ -14,7 +15,7 @@ use Rattle.routing.specs.declared.memory.Memory.{Memory}
 
 -- the groups that are remembered, the newest first
 abbrev pub remembered : Memory → List Group
-remembered m = m.groups.items
+remembered m = listed m.groups
 
 -- the groups once one more is named: it is the newest, and at most eight are remembered
 abbrev pub noted : Group → List Group → List Group

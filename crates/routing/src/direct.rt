@@ -95,6 +95,14 @@ fn direct_share(lines: &[Line], payment: Payment, plan: &[i32]) -> Option<Share>
     Some(share_on(&lines[place], place, payment, plan[place]))
 }
 
+// The room together with the direct part.
+fn with_part(room: i32, part: i32) -> i32
+    requires { ((room +ℤ part) ≤ℤ pos 1000000) × (pos 0 ≤ℤ part) }
+    ensures { result ≡ room +ℤ part }
+{
+    room + part
+}
+
 // The refusal with its room larger by the share's part; one for another reason stays.
 fn widened(refusal: Refusal, share: Share) -> Refusal
     requires low { pos 0 ≤ℤ share.part }
@@ -105,7 +113,7 @@ fn widened(refusal: Refusal, share: Share) -> Refusal
     match refusal {
         Refusal::WantOfRoom { group, room } => Refusal::WantOfRoom {
             group,
-            room: room + share.part,
+            room: with_part(room, share.part),
         },
         other => other,
     }

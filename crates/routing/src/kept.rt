@@ -9,30 +9,26 @@ ghost use Rattle.routing.specs.Kept.{remembered, noted, refusal_by, recalled as 
 use crate::checks::admitted;
 use crate::memory::Memory;
 use crate::router::Router;
-use arrayvec::ArrayVec;
 use credit::line::Line;
 use credit::payment::Payment;
 use credit::refusal::Refusal;
 use credit::room::group_room;
+use lists::few::Few;
 use members::group::Group;
 
 impl Memory {
     fn new() -> Memory
         ensures { remembered result ≡ [] }
     {
-        Memory {
-            groups: ArrayVec::new(),
-        }
+        let groups = Few::empty(Group::empty());
+        Memory { groups }
     }
 
     // Remembers a group as the newest; the oldest of eight is forgotten.
     fn note(&mut self, group: Group)
         ensures { remembered self.new ≡ noted group (remembered self.old) }
     {
-        if self.groups.is_full() {
-            self.groups.pop();
-        }
-        self.groups.insert(0, group);
+        self.groups.push_front(group);
     }
 
     // The refusal by the newest of the remembered groups that gives one.

@@ -1,8 +1,8 @@
-use arrayvec::ArrayVec;
+use lists::few::Few;
 use members::group::Group;
 
 // The last eight groups that were named, the newest first.
-#[derive(Drop)]
+#[derive(Clone, Copy)]
 pub struct Memory {
-    pub(crate) groups: ArrayVec<Group, 8>,
+    pub(crate) groups: Few<Group, 8>,
 }

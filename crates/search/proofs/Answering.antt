@@ -1,5 +1,6 @@
 -- An answer of the search holds of every other relation that leads between the same members.
 use Rattle.std.proofs.Common.{ℕ, ◌+◌, ◌<◌, List, get_or, Ok, Err, Result, arith}
+use Rattle.lists.specs.Lists.{listed}
 use Rattle.members.specs.declared.group.Group.{Group}
 use Rattle.search.specs.Chains.{IsChain}
 use Rattle.search.specs.Answers.{Answered, Searched, steps}
@@ -25,7 +26,7 @@ module _ (S T : ℕ → ℕ → Type 0) (f : Leads S T) (g : Leads T S) (from to
   pub answered_map : (r : Result Chain Group) → Answered S from to r → Answered T from to r
   answered_map (Ok chain) a =
       record {
-        chain = chain_map S T f from to chain.members.items (steps chain) a.chain;
+        chain = chain_map S T f from to (listed chain.members) (steps chain) a.chain;
         apart = a.apart;
         least = λ other j h. a.least other j (chain_map T S g from to other j h);
       }

@@ -1,5 +1,6 @@
 -- What an answer of the search says.
 use Rattle.std.specs.Prelude.{ℕ, ◌-◌, ◌<◌, length, Ok, Err, Result}
+use Rattle.lists.specs.Lists.{listed}
 use Rattle.members.specs.declared.group.Group.{Group}
 use Rattle.search.specs.Chains.{IsShortest, Separates}
 use Rattle.search.specs.declared.chain.Chain.{Chain}
@@ -8,11 +9,11 @@ use Rattle.search.specs.declared.chain.NoChain.TheVariants.{NotMembers, Closed}
 
 -- how many steps a chain has: one less than members
 abbrev pub steps : Chain → ℕ
-steps chain = length chain.members.items - 1
+steps chain = length (listed chain.members) - 1
 
 -- a shortest chain, or a group that shows that there is none
 abbrev pub Answered : (S : ℕ → ℕ → Type 0) (start goal : ℕ) → Result Chain Group → Type 0
-Answered S start goal (Ok chain) = IsShortest S start goal chain.members.items (steps chain)
+Answered S start goal (Ok chain) = IsShortest S start goal (listed chain.members) (steps chain)
 Answered S start goal (Err group) = Separates S start goal group.bits
 
 -- an answer between two members, and none where one of the numbers is no member

@@ -1,11 +1,13 @@
-ghost use Rattle.std.specs.Prelude.{◌≡◌, ℕ, ◌<◌, if◌then◌else◌, slice_index};
+ghost use Rattle.std.specs.Prelude.{◌≡◌, ℕ, ◌<◌, List, IfOk, MatchResult, if◌then◌else◌, slice_index};
+ghost use Rattle.lists.specs.Lists.{listed};
 ghost use Rattle.members.specs.Groups.{inside};
+ghost use Rattle.search.specs.Chains.{IsShortest, Separates};
 ghost use Rattle.search.specs.Levels.{Spread, Members, Traced};
-ghost use Rattle.search.specs.Answers.{Answered, Searched};
+ghost use Rattle.search.specs.Answers.{Searched};
 
 use crate::chain::{Chain, NoChain};
 use crate::graph::Graph;
-use arrayvec::ArrayVec;
+use lists::few::Few;
 use members::group::Group;
 
 // A shortest chain of steps from the start to the goal.
@@ -15,23 +17,35 @@ pub fn search<G: Graph>(graph: &G, start: u32, goal: u32) -> Result<Chain, NoCha
     if start > 63 || goal > 63 {
         return Err(NoChain::NotMembers);
     }
-    shortest(graph, start, goal).map_err(NoChain::Closed)
+    let mut before = [0u32; 64];
+    match levels(graph, start, goal, &mut before) {
+        Ok(steps) => Ok(trace(&before, goal, steps)),
+        Err(group) => Err(NoChain::Closed(group)),
+    }
 }
 
-// The search between two members, level by level: a shortest chain, or a group that shows that there is none.
-fn shortest<G: Graph>(graph: &G, start: u32, goal: u32) -> Result<Chain, Group>
+// Goes from the start level by level, and notes in `before` whom each member is reached from. How many steps it takes to
+// the goal, or a group that shows that there is no chain.
+fn levels<G: Graph>(
+    graph: &G,
+    start: u32,
+    goal: u32,
+    before: &mut [u32; 64],
+) -> Result<usize, Group>
     requires from { start < 64 }
     requires to { goal < 64 }
-    ensures { Answered (G.steps graph.now) start goal result }
+    requires members { Members before.old }
+    ensures members { Members before.new }
+    ensures short { IfOk result (λ steps. steps < 64) }
+    ensures leads { MatchResult result (λ steps. (c : List ℕ) → Traced before.new goal steps c → IsShortest (G.steps graph.now) start goal c steps) (λ group. Separates (G.steps graph.now) start goal group.bits) }
 {
-    let mut before = [0u32; 64];
     if start == goal {
-        return Ok(trace(&before, goal, 0));
+        return Ok(0);
     }
     let mut seen = Group::empty().with(start);
     let mut frontier = seen;
     let mut level = 0usize;
-    while let Some(next) = spread(graph, frontier, seen, &mut before, goal) {
+    while let Some(next) = spread(graph, frontier, seen, before, goal) {
         if next.bits == 0 {
             return Err(seen);
         }
@@ -39,7 +53,7 @@ fn shortest<G: Graph>(graph: &G, start: u32, goal: u32) -> Result<Chain, Group>
         frontier = next;
         level += 1;
     }
-    Ok(trace(&before, goal, level + 1))
+    Ok(level + 1)
 }
 
 // The members outside `seen` that are one step from the frontier, each noted in `before` with the member it is
@@ -52,16 +66,18 @@ fn spread<G: Graph>(
     before: &mut [u32; 64],
     goal: u32,
 ) -> Option<Group>
-    requires { Members before.old }
+    requires member { goal < 64 }
+    requires members { Members before.old }
     ensures { Spread (G.steps graph.now) frontier.bits seen.bits goal before.old before.new result }
 {
     let mut next = Group::empty();
     for m in frontier.walk() {
         let fresh = graph.reached(m).minus(seen.union(next));
-        note(before, fresh, m);
         if fresh.holds(goal) {
+            before[goal as usize] = m;
             return None;
         }
+        note(before, fresh, m);
         next = next.union(fresh);
     }
     Some(next)
@@ -82,9 +98,9 @@ fn trace(before: &[u32; 64], goal: u32, steps: usize) -> Chain
     requires member { goal < 64 }
     requires short { steps < 64 }
     requires members { Members before.now }
-    ensures { Traced before.now goal steps result.members.items }
+    ensures { Traced before.now goal steps (listed result.members) }
 {
-    let mut members = ArrayVec::new();
+    let mut members = Few::empty(0);
     let mut at = goal;
     members.push(at);
     for _ in 0..steps {

@@ -1,10 +1,10 @@
-use arrayvec::ArrayVec;
+use lists::few::Few;
 use members::group::Group;
 
 // A chain of members, each one step from the one before it.
-#[derive(Drop)]
+#[derive(Clone, Copy)]
 pub struct Chain {
-    pub members: ArrayVec<u32, 64>,
+    pub members: Few<u32, 64>,
 }
 
 // Why a search finds no chain.

@@ -6,16 +6,14 @@ ghost use Rattle.batch.specs.Reads.{steps_of, left as ahead};
 
 use crate::reader::{Reader, Step};
 use crate::reading::form;
+use crate::scan::cut_at;
 
 // The bytes up to the first line feed, and those after it.
 fn first_line(text: &[u8]) -> (&[u8], &[u8])
     ensures line { result.0.now ≡ before_first (λ b. b == 10) text.now }
     ensures rest { result.1.now ≡ after_first (λ b. b == 10) text.now }
 {
-    match text.iter().position(|b| *b == b'\n') {
-        Some(end) => (&text[..end], &text[end + 1..]),
-        None => (text, &[]),
-    }
+    cut_at(text, b'\n')
 }
 
 impl<'a> Reader<'a> {

@@ -1,10 +1,6 @@
-use Rattle.std.proofs.Common.{◌≡◌, ◌<◌, length, take, Some, All}
-use Rattle.batch.specs.Parts.{numbers_of}
-use Rattle.batch.specs.Pieces.{cut}
+use Rattle.std.proofs.Common.{length}
+use Rattle.batch.proofs.Rows.{Sofar}
 use Rattle.batch.proofs.parts.read.Given as goal
 
-abbrev pub invariant-loop-k : goal.invariant-loop-k
-invariant-loop-k l = record {
-  value : numbers_of (take (length l.yielded) (cut 32 l.body)) ≡ Some (take (length l.yielded) l.places);
-  small : All (λ n. n < 10000000) (take (length l.yielded) l.places);
-}
+abbrev pub invariant-loop-place : goal.invariant-loop-place
+invariant-loop-place l = Sofar l.body (length l.initial.places) l.place-index l.places l.rest

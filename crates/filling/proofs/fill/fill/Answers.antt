@@ -1,5 +1,6 @@
 use Rattle.std.proofs.Common.{◌≡◌, length, ap, ◌∙◌, pos, ◌≤ℤ◌, sym, subst, arith, w32, w64, to_z, of_z}
 use Rattle.std.proofs.lemmas.Int.{ints}
+use Rattle.lists.specs.Lists.{listed}
 use Rattle.credit.specs.Plans.{booked}
 use Rattle.credit.proofs.Booked.{length_booked}
 use Rattle.search.specs.Chains.{IsShortest}
@@ -16,14 +17,14 @@ pub hops-hops-requires : goal.hops-hops-requires
 hops-hops-requires c = rw c.new-booked.ensures c.requires.shortest.chain.linked
 
 -- the filling, and how much is sent
-filling : (c : After-least_room-x) → Filling c.args.lines.now c.args.rest.payer c.args.rest.payee (pos c.args.least) c.args.rest.amount c.args.plan.now c.args.chain.now.members.items c.hops-hops.result.items c.least_room-x.result
+filling : (c : After-least_room-x) → Filling c.args.lines.now c.args.rest.payer c.args.rest.payee (pos c.args.least) c.args.rest.amount c.args.plan.now (listed c.args.chain.now.members) c.hops-hops.result.items c.least_room-x.result
 filling c =
     let ls = booked c.args.lines.now c.args.plan.now in
     let p = passed_facts c.args.lines.now c.args.rest c.args.plan.now c.requires.checks in
     let n : to_z w32 (of_z w32 c.args.rest.amount) ≡ c.args.rest.amount = omega (arith, ints, p.low, p.high) in
     record {
       some = p.low;
-      shortest = subst (λ k. IsShortest (RoomStep ls (pos c.args.least)) c.args.rest.payer c.args.rest.payee c.args.chain.now.members.items k) (sym c.hops-hops.ensures.count) c.requires.shortest;
+      shortest = subst (λ k. IsShortest (RoomStep ls (pos c.args.least)) c.args.rest.payer c.args.rest.payee (listed c.args.chain.now.members) k) (sym c.hops-hops.ensures.count) c.requires.shortest;
       over = rw c.new-booked.ensures at c.hops-hops.ensures.over;
       amount = least_all ls c.hops-hops.result.items c.args.rest.amount c.least_room-x.result (rw (c.deref.ensures.0, n, c.new-booked.ensures) at c.least_room-x.ensures);
     }
@@ -53,7 +54,7 @@ pub send-requires-clause-apart : goal.send-requires-clause-apart
 send-requires-clause-apart c =
     let f = filling (goal.at.send-requires-clause-apart c).After-least_room-x in
     let p = passed_facts c.args.lines.now c.args.rest c.args.plan.now c.requires.checks in
-    rw c.deref-2.ensures.0 (all_apart c.args.lines.now c.args.plan.now p.long (pos c.args.least) c.args.chain.now.members.items c.hops-hops.result.items f.shortest.apart f.over)
+    rw c.deref-2.ensures.0 (all_apart c.args.lines.now c.args.plan.now p.long (pos c.args.least) (listed c.args.chain.now.members) c.hops-hops.result.items f.shortest.apart f.over)
 
 pub send-requires-clause-low : goal.send-requires-clause-low
 send-requires-clause-low c = let b = (goal.at.send-requires-clause-low c).After-least_room-x in rw (cast b) (low b)
@@ -64,4 +65,4 @@ send-requires-clause-high c = let b = (goal.at.send-requires-clause-high c).Afte
 pub returns : goal.returns
 returns c =
     let b = (goal.at.returns c).After-least_room-x in
-    rw (cast b) (c.args.chain.now.members.items, c.hops-hops.result.items, filling b, rw (c.deref-2.ensures.0, cast b) at c.send.ensures)
+    rw (cast b) ((listed c.args.chain.now.members), c.hops-hops.result.items, filling b, rw (c.deref-2.ensures.0, cast b) at c.send.ensures)

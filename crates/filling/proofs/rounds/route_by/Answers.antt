@@ -23,7 +23,7 @@ refused c =
 back : (c : After-put_back) → c.put_back.new.plan ≡ c.args.plan.now
 back c =
     let p = passed_facts c.args.lines.now c.args.payment c.args.plan.now c.requires.checks in
-    c.put_back.ensures ∙ taken_back c.args.lines.now c.args.payment c.args.plan.now p c.args.top c.in-Err.short.left c.rounds.new.plan c.deref.result.now c.in-Err.ensures.0 (c.deref.ensures.0 ∙ c.copied-before.ensures)
+    c.put_back.ensures ∙ taken_back c.args.lines.now c.args.payment c.args.plan.now p c.args.top c.in-Err.short.left c.rounds.new.plan c.as_slice.result.now c.in-Err.ensures.0 (c.as_slice.ensures.value ∙ c.copied-before.ensures)
 
 pub returns-in-Err-clause-finds : goal.returns-in-Err-clause-finds
 returns-in-Err-clause-finds c =

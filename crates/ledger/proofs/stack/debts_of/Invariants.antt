@@ -1,6 +1,6 @@
-use Rattle.std.proofs.Common.{◌≡◌, take}
+use Rattle.std.proofs.Common.{◌≡◌, length, take}
 use Rattle.ledger.specs.Debts.{debts}
 use Rattle.ledger.proofs.stack.debts_of.Given as goal
 
-abbrev pub invariant-loop-line : goal.invariant-loop-line
-invariant-loop-line l = l.saved.items ≡ debts (take l.line-index l.lines)
+abbrev pub invariant-loop-i : goal.invariant-loop-i
+invariant-loop-i l = (length l.saved ≡ 256) × (take l.i l.saved ≡ debts (take l.i l.lines))

@@ -1,5 +1,5 @@
 use Rattle.std.proofs.Common.{arith}
-use Rattle.rings.proofs.Clearing.{reached_none, reached_then, reached_keeps, cleared_more, tidied_clear}
+use Rattle.rings.proofs.Clearing.{reached_then, reached_keeps, cleared_more}
 use Rattle.rings.proofs.tidy.tidy.Goals as goal
 
 pub loop-i-preserved : goal.loop-i-preserved

@@ -1,6 +1,7 @@
 use Rattle.std.proofs.Common.{◌≡◌, ◌+◌, ◌-◌, ◌≤◌, length, get_or, drop, pos, sym, ap, ◌∙◌, arith}
 use Rattle.std.proofs.lemmas.Iterator.{window_more}
 use Rattle.std.specs.Slice.Iter.{windows_rest}
+use Rattle.lists.specs.Lists.{listed}
 use Rattle.filling.specs.Steps.{LeadsAt}
 use Rattle.filling.proofs.Firsts.{over_push}
 use Rattle.filling.proofs.booked.Booked.hops.Goals as goal
@@ -8,13 +9,13 @@ use Rattle.filling.proofs.booked.Booked.hops.Goals.{In-Some}
 
 -- this turn's pair is the two members of the chain behind as many as there are hops
 turn : (c : In-Some) → (length (windows_rest c.next.new.self) + 1 ≡ length (windows_rest c.loop-pair.pair-iterator))
-    × (windows_rest c.next.new.self ≡ drop (length c.args.chain.now.members.items - length (windows_rest c.next.new.self)) c.args.chain.now.members.items)
+    × (windows_rest c.next.new.self ≡ drop (length (listed c.args.chain.now.members) - length (windows_rest c.next.new.self)) (listed c.args.chain.now.members))
     × (2 ≤ length (windows_rest c.loop-pair.pair-iterator))
-    × (get_or c.in-Some.pair.now 0 0 ≡ get_or c.args.chain.now.members.items (length c.loop-pair.hops.items) 0)
-    × (get_or c.in-Some.pair.now 1 0 ≡ get_or c.args.chain.now.members.items (length c.loop-pair.hops.items + 1) 0)
+    × (get_or c.in-Some.pair.now 0 0 ≡ get_or (listed c.args.chain.now.members) (length c.loop-pair.hops.items) 0)
+    × (get_or c.in-Some.pair.now 1 0 ≡ get_or (listed c.args.chain.now.members) (length c.loop-pair.hops.items + 1) 0)
 turn c =
     let v = c.loop-pair.invariant in
-    let ms = c.args.chain.now.members.items in
+    let ms = (listed c.args.chain.now.members) in
     let n = length (windows_rest c.loop-pair.pair-iterator) in
     let i = length c.loop-pair.hops.items in
     let t = window_more ms c.loop-pair.pair-iterator c.next.new.self c.next.result c.in-Some.pair c.in-Some.is c.next.ensures.steps
@@ -35,7 +36,7 @@ loop-pair-preserved c =
     let v = c.loop-pair.invariant in
     let n = c.push.ensures.len in
     let ls = c.args.self.now in
-    let ms = c.args.chain.now.members.items in
+    let ms = (listed c.args.chain.now.members) in
     let i = length c.loop-pair.hops.items in
     let o : LeadsAt ls (pos c.args.least) (get_or ms i 0) (get_or ms (i + 1) 0) c.place.result = rw (sym t.3, sym t.4) c.place.ensures in
     record {

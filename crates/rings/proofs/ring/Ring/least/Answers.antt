@@ -1,9 +1,7 @@
-use Rattle.std.proofs.Common.{◌+◌, ℤ, sym, refl, subst, inl, inr, arith, w32, SFits, rules}
+use Rattle.std.proofs.Common.{◌+◌, ℤ, sym, subst, inl, inr, arith, w32, SFits, rules}
 use Rattle.std.proofs.lemmas.Int.{to_z-of_z}
-use Rattle.credit.specs.Net.{no_line, bounded}
-use Rattle.credit.proofs.Sums.{every_at}
 use Rattle.rings.specs.Parties.{party}
-use Rattle.rings.proofs.Lowering.{Least, least_none, least_more}
+use Rattle.rings.proofs.Lowering.{Least, least_more}
 use Rattle.rings.proofs.Clearing.{ring_least}
 use Rattle.rings.proofs.ring.Ring.least.Goals as goal
 

@@ -1,11 +1,9 @@
 use Rattle.std.proofs.Common.{ℤ, refl, ap, ◌∙◌, arith, w32, to_z, of_z}
-use Rattle.std.proofs.lemmas.Int.{ints, to_z-of_z}
-use Rattle.credit.specs.Net.{no_line, bounded}
-use Rattle.credit.proofs.Sums.{every_at}
+use Rattle.std.proofs.lemmas.Int.{to_z-of_z}
 use Rattle.rings.specs.Rings.{steps, cancel}
 use Rattle.rings.specs.Parties.{party}
 use Rattle.rings.proofs.Stepping.{apart_once}
-use Rattle.rings.proofs.Lowering.{lowering_none, lowering_more, lowering_all}
+use Rattle.rings.proofs.Lowering.{lowering_more, lowering_all}
 use Rattle.rings.proofs.ring.Ring.lower.Goals as goal
 
 pub loop-line-preserved : goal.loop-line-preserved
