@@ -21,7 +21,7 @@ fn debts_of(lines: &[Line]) -> Few<i32, 256>
     for (i, line) in lines.iter().enumerate() {
         saved[i] = line.debt;
     }
-    Few::first(saved, lines.len())
+    Few::front(saved, lines.len())
 }
 
 // Gives each line its debt back.

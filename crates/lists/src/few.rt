@@ -35,7 +35,7 @@ impl<T: Copy, const N: usize> Few<T, N> {
     }
 
     // The first elements of an array, so many.
-    pub fn first(places: [T; N], count: usize) -> Self
+    pub fn front(places: [T; N], count: usize) -> Self
         requires { count ≤ N }
         ensures { listed result ≡ take count places }
     {

@@ -5,4 +5,4 @@ use Rattle.rings.specs.declared.ring.Ring.{Ring}
 
 -- who stands on the ring
 abbrev pub party : Ring → List ℕ
-party r = (listed r.chain.members)
+party r = listed r.chain.members

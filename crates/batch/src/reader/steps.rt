@@ -1,20 +1,11 @@
 // The steps of a reader.
-ghost use Rattle.std.specs.Prelude.{◌≡◌, ◌==◌};
+ghost use Rattle.std.specs.Prelude.{◌≡◌};
 ghost use Rattle.std.specs.Iterator.{YieldsFirst, item_count};
-ghost use Rattle.std.specs.List.{before_first, after_first};
 ghost use Rattle.batch.specs.Reads.{steps_of, left as ahead};
 
 use crate::reader::{Reader, Step};
 use crate::reading::form;
 use crate::scan::cut_at;
-
-// The bytes up to the first line feed, and those after it.
-fn first_line(text: &[u8]) -> (&[u8], &[u8])
-    ensures line { result.0.now ≡ before_first (λ b. b == 10) text.now }
-    ensures rest { result.1.now ≡ after_first (λ b. b == 10) text.now }
-{
-    cut_at(text, b'\n')
-}
 
 impl<'a> Reader<'a> {
     // A reader at the start of the batch.
@@ -40,7 +31,7 @@ impl<'a> Iterator for Reader<'a> {
         if self.rest.is_empty() {
             return None;
         }
-        let (line, rest) = first_line(self.rest);
+        let (line, rest) = cut_at(self.rest, b'\n');
         self.rest = rest;
         self.line += 1;
         Some(Step {

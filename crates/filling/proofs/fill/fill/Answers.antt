@@ -65,4 +65,4 @@ send-requires-clause-high c = let b = (goal.at.send-requires-clause-high c).Afte
 pub returns : goal.returns
 returns c =
     let b = (goal.at.returns c).After-least_room-x in
-    rw (cast b) ((listed c.args.chain.now.members), c.hops-hops.result.items, filling b, rw (c.deref-2.ensures.0, cast b) at c.send.ensures)
+    rw (cast b) (listed c.args.chain.now.members, c.hops-hops.result.items, filling b, rw (c.deref-2.ensures.0, cast b) at c.send.ensures)

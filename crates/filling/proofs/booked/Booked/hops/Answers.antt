@@ -15,7 +15,7 @@ turn : (c : In-Some) → (length (windows_rest c.next.new.self) + 1 ≡ length (
     × (get_or c.in-Some.pair.now 1 0 ≡ get_or (listed c.args.chain.now.members) (length c.loop-pair.hops.items + 1) 0)
 turn c =
     let v = c.loop-pair.invariant in
-    let ms = (listed c.args.chain.now.members) in
+    let ms = listed c.args.chain.now.members in
     let n = length (windows_rest c.loop-pair.pair-iterator) in
     let i = length c.loop-pair.hops.items in
     let t = window_more ms c.loop-pair.pair-iterator c.next.new.self c.next.result c.in-Some.pair c.in-Some.is c.next.ensures.steps
@@ -36,7 +36,7 @@ loop-pair-preserved c =
     let v = c.loop-pair.invariant in
     let n = c.push.ensures.len in
     let ls = c.args.self.now in
-    let ms = (listed c.args.chain.now.members) in
+    let ms = listed c.args.chain.now.members in
     let i = length c.loop-pair.hops.items in
     let o : LeadsAt ls (pos c.args.least) (get_or ms i 0) (get_or ms (i + 1) 0) c.place.result = rw (sym t.3, sym t.4) c.place.ensures in
     record {

@@ -7,7 +7,7 @@ use Rattle.rings.proofs.ring.Ring.new.Given as goal
 -- what is left of the chain, and the steps before it stand in the table
 abbrev pub invariant-loop-step : goal.invariant-loop-step
 invariant-loop-step l =
-    let c = (listed l.fn.chain.members) in
+    let c = listed l.fn.chain.members in
     let rest = windows_rest l.step-iterator in
     record {
       two : windows_size l.step-iterator ≡ 2;
