@@ -31,18 +31,6 @@ pub record Sofar (body : List ℕ) (n k : ℕ) (out rest : List ℕ) : Type 0 wh
   pub done : k ≡ n → numbers_of (cut 32 body) ≡ Some out
   pub small : All (λ m. m < 10000000) (take k out)
 
-none_yet : (o : Option (List ℕ)) (out : List ℕ) → o ≡ onward 0 out o
-none_yet None out = refl
-none_yet (Some ns) out = refl
-
-pub start : (body : List ℕ) (n : ℕ) (out : List ℕ) → length (cut 32 body) ≡ n → length out ≡ n → Sofar body n 0 out body
-start body n out h e = record {
-  size = e;
-  going = λ l. (omega arith, none_yet _ out);
-  done = λ z. absurd (omega (arith, some_piece body));
-  small = λ j d lt. absurd (omega arith);
-}
-
 one_more : (k m : ℕ) (out : List ℕ) (o : Option (List ℕ)) → k < length out → onward k out (ahead (Some m) o) ≡ onward (k + 1) (set out k m) o
 one_more k m out None l = refl
 one_more k m out (Some ns) l = ap Some (sym (append_assoc (take k out) (m ∷ []) ns) ∙ ap (λ xs. xs ++ ns) (sym (take_more_set out k m l)))

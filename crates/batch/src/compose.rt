@@ -31,6 +31,7 @@ fn add_members(text: &mut Text, group: Group)
     ensures bytes { text.new.bytes ≡ text.old.bytes ++ listed (members_of group.bits) }
     ensures len { array_string_len text.new ≤ array_string_len text.old + 192 }
 {
+    // not by `add`, which copies the space as a text and makes a buffer for each number
     let mut digits = Buffer::new();
     for member in group.walk() {
         text.push(' ');

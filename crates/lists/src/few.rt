@@ -1,4 +1,4 @@
-// A list of fixed capacity. No call allocates.
+// For the crates above: callers keep within the capacity. No call allocates.
 ghost use Rattle.std.specs.Prelude.{⊤, ◌≡◌, ◌<◌, ◌≤◌, [], ◌∷◌, ◌++◌, length, take, reverse};
 
 use std::alloc::AllocError;
@@ -28,10 +28,7 @@ impl<T: Copy, const N: usize> Few<T, N> {
     pub fn empty(blank: T) -> Self
         ensures { listed result ≡ [] }
     {
-        Few {
-            places: [blank; N],
-            count: 0,
-        }
+        Few::front([blank; N], 0)
     }
 
     // The first elements of an array, so many.
@@ -49,10 +46,7 @@ impl<T: Copy, const N: usize> Few<T, N> {
     {
         let mut places = [blank; N];
         places[..elements.len()].copy_from_slice(elements);
-        Few {
-            places,
-            count: elements.len(),
-        }
+        Few::front(places, elements.len())
     }
 
     // The elements.
